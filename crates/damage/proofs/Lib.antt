@@ -1,0 +1,6 @@
+pub mod Weights
+pub mod Altered
+pub mod CheckWords
+pub mod Checked
+pub mod Prefixes
+pub mod Damage

@@ -1,0 +1,99 @@
+-- An accepted image as plain facts, and back.
+use mathlib.Core.Path.{_≡_, refl}
+use mathlib.Core.Bool.{_||_}
+use mathlib.Core.List.{List}
+use Prim.Native.Nat.{ℕ, _+_, _-_, _*_, _≤_, _<_}
+use native.Mathlib.Omega.{arith}
+use lib.ListN.{length, take}
+use borrow.Author.Tests.{leb-false, le-ltb, lt-leb}
+use Rattle.paper.specs.Below.{differ, outside}
+use Rattle.paper.specs.Words.{words, checkWord}
+use Rattle.paper.specs.View.{viewGrounds}
+use Rattle.paper.specs.Image.{states, classes, start, depth, entries, classOf, distanceBack, wholeLength, worst, check, imageLength, imageView, imageGrounds}
+use Rattle.paper.specs.Operations.{judgeImage}
+use Rattle.paper.proofs.Refusals.{Clear, accepted, cleared}
+use Rattle.paper.proofs.Tests.{or-both, or-neither, not-differ, same-differ, not-outside, within-outside}
+use Rattle.facts.proofs.TableFacts.{Classed, classed, classed-clear}
+use Rattle.facts.proofs.ViewFacts.{Sound, Stated, view-facts, view-clear}
+
+-- What an accepted image is known to be.
+pub record AcceptedImage (b : List ℕ) : Type 0 where
+  pub some-states : 1 ≤ states b
+  pub few-states : states b ≤ 512
+  pub some-classes : 1 ≤ classes b
+  pub few-classes : classes b ≤ 256
+  pub enough : classes b ≤ entries b
+  pub not-many : entries b ≤ states b * classes b
+  pub long : length b ≡ imageLength (states b) (entries b)
+  pub whole : wholeLength b ≡ length b
+  pub distance : distanceBack b ≡ 4 * entries b + 12
+  pub checked : check b ≡ checkWord (words (take (length b - 2) b))
+  pub begins : start b < states b
+  pub all-classed : Classed 256 (classes b) (classOf b)
+  pub right : Sound (imageView b)
+  pub stated : Stated (imageView b) (classOf b) (entries b) (depth b) (worst b)
+
+image-facts : (b : List ℕ) → Clear (imageGrounds b) → AcceptedImage b
+unfolding imageGrounds
+image-facts b (_, (g₂, (g₃, (g₄, (g₅, (g₆, (g₇, view))))))) =
+    let n = states b in
+    let k = classes b in
+    let m = entries b in
+    let (ns, others) = or-both (outside 1 512 n) (outside 1 256 k || outside k (n * k) m) g₂ in
+    let (ks, ms) = or-both (outside 1 256 k) (outside k (n * k) m) others in
+    let (n₁, n₂) = not-outside 1 512 n ns in
+    let (k₁, k₂) = not-outside 1 256 k ks in
+    let (m₁, m₂) = not-outside k (n * k) m ms in
+    let (wholes, backs) = or-both (differ (wholeLength b) (length b)) (differ (distanceBack b) (4 * m + 12)) g₄ in
+    let (sound, states-so) = view-facts (imageView b) (classOf b) m (depth b) (worst b) view in
+    record {
+      some-states = n₁;
+      few-states = n₂;
+      some-classes = k₁;
+      few-classes = k₂;
+      enough = m₁;
+      not-many = m₂;
+      long = not-differ (length b) (imageLength n m) g₃;
+      whole = not-differ (wholeLength b) (length b) wholes;
+      distance = not-differ (distanceBack b) (4 * m + 12) backs;
+      checked = not-differ (check b) (checkWord (words (take (length b - 2) b))) g₅;
+      begins = leb-false n (start b) g₆;
+      all-classed = classed k (classOf b) g₇;
+      right = sound;
+      stated = states-so;
+    }
+
+pub image-clear : (b : List ℕ) → AcceptedImage b → Clear (imageGrounds b)
+unfolding imageGrounds
+image-clear b A =
+    let n = states b in
+    let k = classes b in
+    let m = entries b in (
+      le-ltb (length b) 24 (omega (arith, A .long)),
+      (
+        or-neither (outside 1 512 n) (outside 1 256 k || outside k (n * k) m) (within-outside 1 512 n (A .some-states) (A .few-states))
+            (or-neither (outside 1 256 k) (outside k (n * k) m) (within-outside 1 256 k (A .some-classes) (A .few-classes)) (within-outside k (n * k) m (A .enough) (A .not-many))),
+        (
+          same-differ (length b) (imageLength n m) (A .long),
+          (
+            or-neither (differ (wholeLength b) (length b)) (differ (distanceBack b) (4 * m + 12)) (same-differ (wholeLength b) (length b) (A .whole)) (same-differ (distanceBack b) (4 * m + 12) (A .distance)),
+            (
+              same-differ (check b) (checkWord (words (take (length b - 2) b))) (A .checked),
+              (
+                lt-leb n (start b) (A .begins),
+                (classed-clear k (classOf b) (A .all-classed), view-clear (imageView b) (A .right) (classOf b) m (depth b) (worst b) (A .stated)),
+              ),
+            ),
+          ),
+        ),
+      ),
+    )
+
+-- An image is accepted just where it is so.
+pub accepted-image : (b : List ℕ) → judgeImage b ≡ 0 → AcceptedImage b
+unfolding judgeImage imageGrounds viewGrounds
+accepted-image b e = image-facts b (accepted (imageGrounds b) refl e)
+
+pub image-accepted : (b : List ℕ) → AcceptedImage b → judgeImage b ≡ 0
+unfolding judgeImage
+image-accepted b A = cleared (imageGrounds b) (image-clear b A)

@@ -1,0 +1,53 @@
+-- Any two outcomes that a promise allows are one, for each of the six operations.
+use mathlib.Core.Path.{_≡_, sym, _∙_}
+use mathlib.Core.List.{List}
+use Prim.Native.Nat.{ℕ}
+use Rattle.paper.specs.Operations.{Built}
+use Rattle.paper.specs.Promises.{IsBuilt, JudgesTable, JudgesImage, Compacts, Writes, Expands, Scans}
+
+-- Two answers to one question are one.
+one : {A : Type 0} {x y z : A} → x ≡ z → y ≡ z → x ≡ y
+one p q = p ∙ sym q
+
+-- Two numbers, lengths and rooms are the same.
+abbrev pub SameBuilt : ℕ → ℕ → List ℕ → ℕ → ℕ → List ℕ → Type 0
+SameBuilt n l r n′ l′ r′ = (n ≡ n′) × (l ≡ l′) × (r ≡ r′)
+
+built-determined : (o : Built) (n l n′ l′ : ℕ) (r r′ : List ℕ) → IsBuilt o n l r → IsBuilt o n′ l′ r′ → SameBuilt n l r n′ l′ r′
+built-determined o n l n′ l′ r r′ a b = (one (a .number-is) (b .number-is), one (a .length-is) (b .length-is), one (a .room-is) (b .room-is))
+
+-- Judging a table.
+pub judge-table-determined : (t : List ℕ) (n n′ : ℕ) → JudgesTable t n → JudgesTable t n′ → n ≡ n′
+judge-table-determined t n n′ = one
+
+-- Judging an image.
+pub judge-image-determined : (b : List ℕ) (n n′ : ℕ) → JudgesImage b n → JudgesImage b n′ → n ≡ n′
+judge-image-determined b n n′ = one
+
+-- Compact.
+pub compact-determined : (t : List ℕ) (D : ℕ) (room : List ℕ) (n l n′ l′ : ℕ) (r r′ : List ℕ)
+    → Compacts t D room n l r → Compacts t D room n′ l′ r′ → SameBuilt n l r n′ l′ r′
+compact-determined t D room = built-determined _
+
+-- Write.
+pub write-determined : (t ds room : List ℕ) (n l n′ l′ : ℕ) (r r′ : List ℕ)
+    → Writes t ds room n l r → Writes t ds room n′ l′ r′ → SameBuilt n l r n′ l′ r′
+write-determined t ds room = built-determined _
+
+-- Expand.
+pub expand-determined : (b room : List ℕ) (n l n′ l′ : ℕ) (r r′ : List ℕ)
+    → Expands b room n l r → Expands b room n′ l′ r′ → SameBuilt n l r n′ l′ r′
+expand-determined b room = built-determined _
+
+-- Scan.
+pub scan-determined : (b : List ℕ) (s : ℕ) (payload room : List ℕ) (n t q k h n′ t′ q′ k′ h′ : ℕ) (r r′ : List ℕ)
+    → Scans b s payload room n t q k h r → Scans b s payload room n′ t′ q′ k′ h′ r′
+    → (n ≡ n′) × (t ≡ t′) × (q ≡ q′) × (k ≡ k′) × (h ≡ h′) × (r ≡ r′)
+scan-determined b s payload room n t q k h n′ t′ q′ k′ h′ r r′ x y = (
+  one (x .number-is) (y .number-is),
+  one (x .taken-is) (y .taken-is),
+  one (x .state-is) (y .state-is),
+  one (x .reports-is) (y .reports-is),
+  one (x .hops-is) (y .hops-is),
+  one (x .room-is) (y .room-is),
+)

@@ -1,0 +1,111 @@
+-- For each operation: the number answered is that of the first of the paper's sentences that holds, 0 where none does.
+use mathlib.Core.Path.{_≡_, refl, sym, _∙_}
+use mathlib.Core.Bool.{_||_}
+use mathlib.Core.Logic.{_↔_, inr}
+use mathlib.Core.List.{List, [], _∷_}
+use Prim.Native.Nat.{ℕ, zero, suc, _+_, _*_, _/_, _<_}
+use native.Mathlib.Decide.{decLt}
+use lib.ListN.{length}
+use Rattle.paper.specs.Below.{any, differ}
+use Rattle.paper.specs.Refusals.{Ground, first}
+use Rattle.paper.specs.Table.{states, tableGrounds}
+use Rattle.paper.specs.View.{defaultBad, endless, depthOf}
+use Rattle.paper.specs.Image as image
+use Rattle.paper.specs.Image.{imageGrounds}
+use Rattle.paper.specs.Results.{tableView, imageOf, tableOf}
+use Rattle.paper.specs.Forest.{defaults}
+use Rattle.paper.specs.Scan.{Run, scanOf}
+use Rattle.paper.specs.Operations.{judgeTable, judgeImage, building, scanning, listed, compacted, compactGrounds, compact, writeGrounds, write, expandGrounds, expand, scanGrounds, scan}
+use Rattle.paper.specs.Sentences.{Sentence, FirstOf, Some, DefaultWrong, Returns, tableSentences, imageSentences, compactSentences, writeSentences, expandSentences, scanSentences}
+use Rattle.paper.proofs.Tests.{holds-less, holds-not-below, holds-differ, holds-or, holds-some}
+use Rattle.paper.proofs.Chain.{Inside}
+use Rattle.paper.proofs.Returns.{holds-returns}
+use Rattle.paper.proofs.Sentences.{Says, exact, says-append}
+use Rattle.paper.proofs.TableSays.{table-says}
+use Rattle.paper.proofs.ViewSays.{holds-default, inside-list}
+use Rattle.paper.proofs.ImageSays.{image-says}
+
+-- Judging a table.
+pub judge-table-exact : (t : List ℕ) (number : ℕ) → judgeTable t ≡ number ↔ FirstOf (tableSentences t) number
+unfolding judgeTable
+judge-table-exact t = exact (tableGrounds t) (tableSentences t) (table-says t)
+
+-- Judging an image.
+pub judge-image-exact : (b : List ℕ) (number : ℕ) → judgeImage b ≡ number ↔ FirstOf (imageSentences b) number
+unfolding judgeImage
+judge-image-exact b = exact (imageGrounds b) (imageSentences b) (image-says b)
+
+-- What builds answers the number of its grounds, and so does what scans.
+number-building : (number : ℕ) (result room : List ℕ) → building number result room .number ≡ number
+number-building zero result room = refl
+number-building (suc r) result room = refl
+
+number-scanning : (number : ℕ) (r : Run) (room : List ℕ) → scanning number r room .number ≡ number
+number-scanning zero r room = refl
+number-scanning (suc q) r room = refl
+
+-- The number answered, through what answers it.
+through : (gs : List Ground) (ss : List Sentence) (answer number : ℕ) → answer ≡ first gs → Says gs ss → answer ≡ number ↔ FirstOf ss number
+through gs ss answer number e w =
+    let x = exact gs ss w number in (λ q. x .0 (sym e ∙ q), λ f. e ∙ x .1 f)
+
+compact-says : (t : List ℕ) (D room : ℕ) → Says (compactGrounds t D room) (compactSentences t D room)
+unfolding compactGrounds compactSentences
+compact-says t D room =
+    says-append (tableGrounds t) _ (tableSentences t) _ (table-says t)
+    (refl, holds-less ((D + 1) / 2) (depthOf (tableView t (defaults t D))), λ _. (refl, holds-less room (length (compacted t D)), λ _. tt))
+
+-- Compact.
+pub compact-exact : (t : List ℕ) (D : ℕ) (room : List ℕ) (number : ℕ) → compact t D room .number ≡ number ↔ FirstOf (compactSentences t D (length room)) number
+unfolding compact
+compact-exact t D room number =
+    through (compactGrounds t D (length room)) (compactSentences t D (length room)) _ number (number-building (first (compactGrounds t D (length room))) (compacted t D) room)
+    (compact-says t D (length room))
+
+write-says : (t ds : List ℕ) (room : ℕ) → Says (writeGrounds t ds room) (writeSentences t ds room)
+unfolding writeGrounds writeSentences
+write-says t ds room =
+    let n = states t in
+    let v = tableView t (listed ds) in
+    says-append (tableGrounds t) _ (tableSentences t) _ (table-says t) (
+      refl,
+      holds-or (differ (length ds) (2 * n)) (any n (λ s. defaultBad n (listed ds s))) (holds-differ (length ds) (2 * n))
+          (holds-some n (λ s. defaultBad n (listed ds s)) (λ s. DefaultWrong v (listed ds s)) (λ s hs. holds-default v (listed ds s))),
+      λ not-8. (
+        refl,
+        holds-some n (endless v) (Returns v) (holds-returns v (inside-list v (λ w. not-8 (inr w)))),
+        λ _. (refl, holds-less room (length (imageOf t (listed ds))), λ _. tt),
+      ),
+    )
+
+-- Write.
+pub write-exact : (t ds room : List ℕ) (number : ℕ) → write t ds room .number ≡ number ↔ FirstOf (writeSentences t ds (length room)) number
+unfolding write
+write-exact t ds room number =
+    through (writeGrounds t ds (length room)) (writeSentences t ds (length room)) _ number (number-building (first (writeGrounds t ds (length room))) (imageOf t (listed ds)) room)
+    (write-says t ds (length room))
+
+expand-says : (b : List ℕ) (room : ℕ) → Says (expandGrounds b room) (expandSentences b room)
+unfolding expandGrounds expandSentences
+expand-says b room =
+    says-append (imageGrounds b) _ (imageSentences b) _ (image-says b) (refl, holds-less room (length (tableOf b)), λ _. tt)
+
+-- Expand.
+pub expand-exact : (b room : List ℕ) (number : ℕ) → expand b room .number ≡ number ↔ FirstOf (expandSentences b (length room)) number
+unfolding expand
+expand-exact b room number =
+    through (expandGrounds b (length room)) (expandSentences b (length room)) _ number (number-building (first (expandGrounds b (length room))) (tableOf b) room)
+    (expand-says b (length room))
+
+scan-says : (b : List ℕ) (s : ℕ) (payload : List ℕ) → Says (scanGrounds b s payload) (scanSentences b s payload)
+unfolding scanGrounds scanSentences
+scan-says b s payload =
+    says-append (imageGrounds b) _ (imageSentences b) _ (image-says b)
+    (refl, holds-not-below s (image.states b), λ _. (refl, holds-less 65536 (length payload), λ _. tt))
+
+-- Scan.
+pub scan-exact : (b : List ℕ) (s : ℕ) (payload room : List ℕ) (number : ℕ) → scan b s payload room .number ≡ number ↔ FirstOf (scanSentences b s payload) number
+unfolding scan
+scan-exact b s payload room number =
+    through (scanGrounds b s payload) (scanSentences b s payload) _ number (number-scanning (first (scanGrounds b s payload)) (scanOf b s payload (length room)) room)
+    (scan-says b s payload)

@@ -1,0 +1,54 @@
+-- What a refusal answers and leaves: its number, every other number 0, and the room as it was.
+use mathlib.Core.Path.{_≡_, refl}
+use mathlib.Core.List.{List}
+use Prim.Native.Nat.{ℕ, zero, suc}
+use lib.ListN.{length}
+use Rattle.paper.specs.Refusals.{first}
+use Rattle.paper.specs.Results.{imageOf, tableOf}
+use Rattle.paper.specs.Scan.{Run, scanOf}
+use Rattle.paper.specs.Operations.{Built, Scanned, building, scanning, filled, listed, compacted, compactGrounds, compact, writeGrounds, write, expandGrounds, expand, scanGrounds, scan}
+use Rattle.paper.specs.Promises.{IsBuilt}
+
+-- A refusal answers its number and 0, and leaves the room.
+pub refused : (v number : ℕ) (result room : List ℕ) → v ≡ number → ¬ (v ≡ 0) → IsBuilt (building number result room) v 0 room
+refused zero number result room e n = absurd (n refl)
+refused (suc v) number result room e n = rw (← e) (record { number-is = refl; length-is = refl; room-is = refl })
+
+-- Acceptance answers 0 and the result's length, and fills the first bytes of the room.
+pub built : (number : ℕ) (result room after : List ℕ) (l : ℕ) → number ≡ 0 → l ≡ length result → after ≡ filled result room
+    → IsBuilt (building number result room) 0 l after
+built number result room after l e q r = rw e (record { number-is = refl; length-is = q; room-is = r })
+
+-- Nothing was built: the length is 0 and the room as it was.
+abbrev pub Unchanged : Built → List ℕ → Type 0
+Unchanged o room = (o .resultLength ≡ 0) × (o .room ≡ room)
+
+building-refused : (number : ℕ) (result room : List ℕ) → ¬ (building number result room .number ≡ 0) → Unchanged (building number result room) room
+building-refused zero result room n = absurd (n refl)
+building-refused (suc r) result room n = (refl, refl)
+
+-- Compact.
+pub compact-refused : (t : List ℕ) (D : ℕ) (room : List ℕ) → ¬ (compact t D room .number ≡ 0) → Unchanged (compact t D room) room
+unfolding compact
+compact-refused t D room = building-refused (first (compactGrounds t D (length room))) (compacted t D) room
+
+-- Write.
+pub write-refused : (t ds room : List ℕ) → ¬ (write t ds room .number ≡ 0) → Unchanged (write t ds room) room
+unfolding write
+write-refused t ds room = building-refused (first (writeGrounds t ds (length room))) (imageOf t (listed ds)) room
+
+-- Expand.
+pub expand-refused : (b room : List ℕ) → ¬ (expand b room .number ≡ 0) → Unchanged (expand b room) room
+unfolding expand
+expand-refused b room = building-refused (first (expandGrounds b (length room))) (tableOf b) room
+
+scanning-refused : (number : ℕ) (r : Run) (room : List ℕ) → ¬ (scanning number r room .number ≡ 0)
+    → (scanning number r room .taken ≡ 0) × (scanning number r room .state ≡ 0) × (scanning number r room .reports ≡ 0) × (scanning number r room .hops ≡ 0) × (scanning number r room .room ≡ room)
+scanning-refused zero r room n = absurd (n refl)
+scanning-refused (suc q) r room n = (refl, refl, refl, refl, refl)
+
+-- Scan.
+pub scan-refused : (b : List ℕ) (s : ℕ) (payload room : List ℕ) → ¬ (scan b s payload room .number ≡ 0)
+    → (scan b s payload room .taken ≡ 0) × (scan b s payload room .state ≡ 0) × (scan b s payload room .reports ≡ 0) × (scan b s payload room .hops ≡ 0) × (scan b s payload room .room ≡ room)
+unfolding scan
+scan-refused b s payload room = scanning-refused (first (scanGrounds b s payload)) (scanOf b s payload (length room)) room

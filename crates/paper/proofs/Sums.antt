@@ -1,0 +1,166 @@
+-- Sums over the numbers below n, and what follows: swap, pick, at most one, pigeonhole.
+use mathlib.Core.Path.{_≡_, refl, sym, ap, ap₂, _∙_}
+use mathlib.Core.Bool.{Bool, true, false, not}
+use mathlib.Core.Logic.{_⊎_, inl, inr}
+use Prim.Native.Nat.{ℕ, zero, suc, _+_, _*_, _≤_, _<_, zero-le}
+use native.Mathlib.Nat.{not-suc-le-zero}
+use native.Mathlib.Decide.{ℕ-discrete, decLe}
+use native.Mathlib.Omega.{arith}
+use lib.Dec.{eqb}
+use borrow.Author.Tests.{eq-eqb, ne-eqb, eqb-true}
+use Rattle.paper.specs.Below.{sum, bit, howMany, any}
+use Rattle.paper.proofs.Below.{any-some, any-at}
+
+-- A sum depends on its terms only, and grows with them.
+pub sum-same : (n : ℕ) (f g : ℕ → ℕ) → ((i : ℕ) → i < n → f i ≡ g i) → sum n f ≡ sum n g
+sum-same zero f g e = refl
+sum-same (suc n) f g e = ap₂ _+_ (sum-same n f g (λ i l. e i (omega arith))) (e n (omega arith))
+
+pub sum-le : (n : ℕ) (f g : ℕ → ℕ) → ((i : ℕ) → i < n → f i ≤ g i) → sum n f ≤ sum n g
+sum-le zero f g e = zero-le
+sum-le (suc n) f g e = omega (arith, sum-le n f g (λ i l. e i (omega arith)), e n (omega arith))
+
+-- The sum of sums, of multiples and of one number.
+pub sum-add : (n : ℕ) (f g : ℕ → ℕ) → sum n (λ i. f i + g i) ≡ sum n f + sum n g
+sum-add zero f g = refl
+sum-add (suc n) f g = omega (arith, sum-add n f g)
+
+pub sum-zero : (n : ℕ) (f : ℕ → ℕ) → ((i : ℕ) → i < n → f i ≡ 0) → sum n f ≡ 0
+sum-zero zero f e = refl
+sum-zero (suc n) f e = omega (arith, sum-zero n f (λ i l. e i (omega arith)), e n (omega arith))
+
+pub sum-constant : (n k : ℕ) → sum n (λ i. k) ≡ n * k
+sum-constant zero k = omega arith
+sum-constant (suc n) k = omega (arith, sum-constant n k)
+
+pub sum-bound : (n k : ℕ) (f : ℕ → ℕ) → ((i : ℕ) → i < n → f i ≤ k) → sum n f ≤ n * k
+sum-bound n k f h = omega (arith, sum-le n f (λ i. k) h, sum-constant n k)
+
+-- The order of two sums does not matter.
+pub sum-swap : (n m : ℕ) (f : ℕ → ℕ → ℕ) → sum n (λ i. sum m (λ j. f i j)) ≡ sum m (λ j. sum n (λ i. f i j))
+sum-swap zero m f = sym (sum-zero m (λ j. 0) (λ j l. refl))
+sum-swap (suc n) m f = ap (λ t. t + sum m (λ j. f n j)) (sum-swap n m f) ∙ sym (sum-add m (λ j. sum n (λ i. f i j)) (λ j. f n j))
+
+-- The terms before one, and it, are at most the sum.
+pub sum-before : (n i : ℕ) (f : ℕ → ℕ) → i < n → sum i f + f i ≤ sum n f
+sum-before zero i f h = absurd (not-suc-le-zero h)
+sum-before (suc n) i f h = go (ℕ-discrete i n) (sum-before n i f)
+  where
+    go : Dec (i ≡ n) → (i < n → sum i f + f i ≤ sum n f) → sum i f + f i ≤ sum n f + f n
+    go (yes e) ih = rw e (omega arith)
+    go (no e) ih = omega (arith, ih (omega arith))
+
+pub term-le : (n i : ℕ) (f : ℕ → ℕ) → i < n → f i ≤ sum n f
+term-le n i f h = omega (arith, sum-before n i f h)
+
+-- The first number of a sum apart.
+pub sum-first : (n : ℕ) (f : ℕ → ℕ) → sum (suc n) f ≡ f 0 + sum n (λ i. f (suc i))
+sum-first zero f = omega arith
+sum-first (suc n) f = omega (arith, sum-first n f)
+
+-- Where the numbers at one place alone may differ, the sums differ as these two do.
+pub sum-altered : (n i : ℕ) (f g : ℕ → ℕ) → i < n → ((j : ℕ) → ¬ (j ≡ i) → f j ≡ g j) → sum n f + g i ≡ sum n g + f i
+sum-altered zero i f g l h = absurd (not-suc-le-zero l)
+sum-altered (suc n) i f g l h = go (ℕ-discrete n i) (sum-altered n i f g)
+  where
+    go : Dec (n ≡ i) → (i < n → ((j : ℕ) → ¬ (j ≡ i) → f j ≡ g j) → sum n f + g i ≡ sum n g + f i) → sum n f + f n + g i ≡ sum n g + g n + f i
+    go (yes e) ih = rw (← e) (omega (arith, sum-same n f g (λ j k. h j (omega arith))))
+    go (no e) ih = omega (arith, h n e, ih (omega arith) h)
+
+-- A test counts at most 1.
+pub bit-le : (b : Bool) → bit b ≤ 1
+bit-le true = omega arith
+bit-le false = omega arith
+
+-- What passes and what does not are all.
+pub count-both : (n : ℕ) (p : ℕ → Bool) → howMany n p + howMany n (λ i. not (p i)) ≡ n
+count-both zero p = refl
+count-both (suc n) p = omega (arith, count-both n p, one (p n))
+  where
+    one : (b : Bool) → bit b + bit (not b) ≡ 1
+    one true = refl
+    one false = refl
+
+pub count-same : (n : ℕ) (p q : ℕ → Bool) → ((i : ℕ) → i < n → p i ≡ q i) → howMany n p ≡ howMany n q
+count-same n p q h = sum-same n (λ i. bit (p i)) (λ i. bit (q i)) (λ i hi. ap bit (h i hi))
+
+pub count-le : (n : ℕ) (p : ℕ → Bool) → howMany n p ≤ n
+count-le n p = omega (arith, count-both n p)
+
+pub count-all : (n : ℕ) (p : ℕ → Bool) → ((i : ℕ) → i < n → p i ≡ true) → howMany n p ≡ n
+count-all zero p h = refl
+count-all (suc n) p h = omega (arith, count-all n p (λ i hi. h i (omega arith)), ap bit (h n (omega arith)))
+
+-- Where all are counted, each passes.
+pub all-counted : (n i : ℕ) (p : ℕ → Bool) → howMany n p ≡ n → i < n → p i ≡ true
+all-counted n i p e h = go (p i) refl
+  where
+    go : (b : Bool) → p i ≡ b → p i ≡ true
+    go true q = q
+    go false q = absurd (omega (arith, count-both n p, term-le n i (λ j. bit (not (p j))) h, ap (λ b. bit (not b)) q))
+
+-- One number is counted once.
+pub pick-one : (n a : ℕ) → a < n → howMany n (λ i. eqb a i) ≡ 1
+pick-one zero a l = absurd (not-suc-le-zero l)
+pick-one (suc n) a l = go (ℕ-discrete a n) (pick-one n a)
+  where
+    go : Dec (a ≡ n) → (a < n → howMany n (λ i. eqb a i) ≡ 1) → howMany n (λ i. eqb a i) + bit (eqb a n) ≡ 1
+    go (yes e) ih = omega (arith, ap bit (eq-eqb a n e), sum-zero n (λ i. bit (eqb a i)) (λ i k. ap bit (ne-eqb a i (λ q. omega arith))))
+    go (no e) ih = omega (arith, ap bit (ne-eqb a n e), ih (omega arith))
+
+-- Where any two that pass are one, at most one is counted.
+pub at-most-one : (n : ℕ) (p : ℕ → Bool) → ((i j : ℕ) → i < n → j < n → p i ≡ true → p j ≡ true → i ≡ j) → howMany n p ≤ 1
+at-most-one zero p u = zero-le
+at-most-one (suc n) p u = go (p n) refl (at-most-one n p (λ i j hi hj. u i j (omega arith) (omega arith)))
+  where
+    other : p n ≡ true → (i : ℕ) → i < n → bit (p i) ≡ 0
+    other q i h = at (p i) refl
+      where
+        at : (b : Bool) → p i ≡ b → bit (p i) ≡ 0
+        at true w = let z : i ≡ n = u i n (omega arith) (omega arith) w q in absurd (omega arith)
+        at false w = ap bit w
+
+    go : (b : Bool) → p n ≡ b → howMany n p ≤ 1 → howMany n p + bit (p n) ≤ 1
+    go true q ih = omega (arith, sum-zero n (λ i. bit (p i)) (other q), bit-le (p n))
+    go false q ih = omega (arith, ap bit q)
+
+-- A map of the numbers below n to numbers below m that takes no value twice: n is at most m.
+pub pigeonhole : (n m : ℕ) (f : ℕ → ℕ) → ((i : ℕ) → i < n → f i < m) → ((i j : ℕ) → i < n → j < n → f i ≡ f j → i ≡ j) → n ≤ m
+pigeonhole n m f into apart =
+    let a : sum n (λ i. 1) ≡ sum n (λ i. howMany m (λ y. eqb (f i) y)) = sum-same n (λ i. 1) (λ i. howMany m (λ y. eqb (f i) y)) (λ i l. sym (pick-one m (f i) (into i l))) in
+    let b : sum m (λ y. howMany n (λ i. eqb (f i) y)) ≤ sum m (λ y. 1) =
+    sum-le m (λ y. howMany n (λ i. eqb (f i) y)) (λ y. 1)
+    (λ y l. at-most-one n (λ i. eqb (f i) y) (λ i j hi hj p q. apart i j hi hj (eqb-true (f i) y p ∙ sym (eqb-true (f j) y q)))) in
+    omega (arith, a, b, sum-swap n m (λ i y. bit (eqb (f i) y)), sum-constant n 1, sum-constant m 1)
+
+-- Two of the numbers below n have one value.
+abbrev pub Twice : ℕ → (ℕ → ℕ) → Type 0
+Twice n f = (i : ℕ) × (j : ℕ) × (i < j) × (j < n) × (f i ≡ f j)
+
+-- Of more numbers than there are values two have one value.
+pub collision : (n m : ℕ) (f : ℕ → ℕ) → m < n → ((i : ℕ) → i < n → f i < m) → Twice n f
+collision n m f more into = go (any n again) refl
+  where
+    again : ℕ → Bool
+    again j = any j (λ i. eqb (f i) (f j))
+
+    differ-all : any n again ≡ false → (i j : ℕ) → i < j → j < n → f i ≡ f j → ⊥
+    differ-all e i j h hj q =
+        let w : eqb (f i) (f j) ≡ false = any-at j i (λ i. eqb (f i) (f j)) (any-at n j again e hj) h in
+        let z : true ≡ false = sym (eq-eqb (f i) (f j) q) ∙ w in
+        let o : _≡_ {A = ℕ} 1 0 = ap bit z in absurd (omega arith)
+
+    apart : any n again ≡ false → (i j : ℕ) → i < n → j < n → f i ≡ f j → i ≡ j
+    apart e i j hi hj q = at (ℕ-discrete i j) (decLe i j)
+      where
+        at : Dec (i ≡ j) → Dec (i ≤ j) → i ≡ j
+        at (yes w) d = w
+        at (no w) (yes l) = absurd (differ-all e i j (omega arith) hj q)
+        at (no w) (no l) = absurd (differ-all e j i (omega arith) hi (sym q))
+
+    go : (b : Bool) → any n again ≡ b → Twice n f
+    go true e =
+        let (j, hj, q) = any-some n again e in
+        let (i, h, w) = any-some j (λ i. eqb (f i) (f j)) q in
+        (i, j, h, hj, eqb-true (f i) (f j) w)
+    go false e = absurd (omega (arith, pigeonhole n m f into (apart e)))

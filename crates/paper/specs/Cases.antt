@@ -1,0 +1,110 @@
+-- The cases that the paper marks with a star: one table, one statement.
+use mathlib.Core.Path.{_≡_, refl, ap}
+use mathlib.Core.Bool.{Bool, true, false, cond, _&&_}
+use mathlib.Core.List.{List, [], _∷_, _++_, map}
+use Prim.Native.Nat.{ℕ, _+_, _/_, zero-le}
+use lib.Dec.{eqb}
+use borrow.Author.Tests.{le-ltb}
+use lib.ListN.{length, replicate, take}
+use Rattle.paper.specs.Below.{list}
+use Rattle.paper.specs.Words.{number16, number32, bytes16, bytes32, _⊕_, checkWord}
+use Rattle.paper.specs.Table.{labels, next, tableGrounds}
+use Rattle.paper.specs.View.{stored, depthOf, worstOf, viewGrounds}
+use Rattle.paper.specs.Image as image
+use Rattle.paper.specs.Image.{entries, depth, worst, imageView, imageGrounds}
+use Rattle.paper.specs.Results.{defaultNumber, labelBytes, recordBytes, entryBytes, front, trailer, parts, imageOfView, entriesOf, tableView, imageOf, tableOf}
+use Rattle.paper.specs.Forest.{weight, singles, endNear, joined, d, longest, joinedLongest, addedOrDropped, pairs, isRoot, root, pointsTo, forest, defaults}
+use Rattle.paper.specs.Scan.{scanOf}
+use Rattle.paper.specs.Operations.{judgeTable, judgeImage, Built, building, compacted, compactGrounds, compact, listed, writeGrounds, write, expandGrounds, expand, Scanned, scanGrounds, scan}
+
+-- Numbers of 16 bits, one after the other.
+abbrev pub all16 : List ℕ → List ℕ
+all16 [] = []
+all16 (w ∷ ws) = bytes16 w ++ all16 ws
+
+-- The classes of the bytes where 'a' is class x, 'b' class y and every other byte 0.
+abbrev pub classesOf : ℕ → ℕ → List ℕ
+classesOf x y = replicate 97 0 ++ (x ∷ y ∷ []) ++ replicate 157 0
+
+-- Table T.
+abbrev pub T : List ℕ
+T =
+    all16 (4 ∷ 3 ∷ 0 ∷ []) ++ classesOf 1 2 ++ all16 (0 ∷ 0 ∷ 7 ∷ 9 ∷ [])
+    ++ all16 (0 ∷ 1 ∷ 0 ∷ []) ++ all16 (0 ∷ 1 ∷ 2 ∷ []) ++ all16 (0 ∷ 1 ∷ 3 ∷ []) ++ all16 (0 ∷ 1 ∷ 0 ∷ [])
+
+-- The table of three states.
+abbrev pub three : List ℕ
+three =
+    all16 (3 ∷ 2 ∷ 0 ∷ []) ++ classesOf 0 1 ++ all16 (0 ∷ 0 ∷ 0 ∷ []) ++ all16 (0 ∷ 0 ∷ []) ++ all16 (0 ∷ 1 ∷ []) ++ all16 (1 ∷ 1 ∷ [])
+
+-- The table of eight equal rows.
+abbrev pub eight : List ℕ
+eight = all16 (8 ∷ 3 ∷ 0 ∷ []) ++ classesOf 1 2 ++ replicate 16 0 ++ replicate 48 0
+
+-- A room of some length.
+abbrev pub room : ℕ → List ℕ
+room n = replicate n 255
+
+-- The entries, depth and worst of an image, then each state's default.
+abbrev pub numbers : List ℕ → List ℕ
+numbers b = entries b ∷ depth b ∷ worst b ∷ list (image.states b) (λ s. defaultNumber (image.default b s))
+
+-- The number and the length answered, then the numbers of the image in the room.
+abbrev pub built : Built → List ℕ
+built o = o .number ∷ o .resultLength ∷ numbers (take (o .resultLength) (o .room))
+
+-- The five numbers answered, then the room.
+abbrev pub scanned : Scanned → List ℕ
+scanned o = o .number ∷ o .taken ∷ o .state ∷ o .reports ∷ o .hops ∷ o .room
+
+-- The first byte, the first two, and so on.
+abbrev pub beginnings : List ℕ → List (List ℕ)
+beginnings [] = []
+beginnings (x ∷ xs) = (x ∷ []) ∷ map (λ p. x ∷ p) (beginnings xs)
+
+-- The payload "aabbb".
+abbrev pub aabbb : List ℕ
+aabbb = 97 ∷ 97 ∷ 98 ∷ 98 ∷ 98 ∷ []
+
+-- The image of T with D 2.
+abbrev pub T2 : List ℕ
+T2 = compacted T 2
+
+-- T written with 0, 1 and 2 to 3.
+abbrev pub T3 : List ℕ
+T3 = imageOf T (listed (all16 (3 ∷ 3 ∷ 3 ∷ 65535 ∷ [])))
+
+-- Two lists are the same.
+abbrev pub same : List ℕ → List ℕ → Bool
+same [] [] = true
+same [] (y ∷ ys) = false
+same (x ∷ xs) [] = false
+same (x ∷ xs) (y ∷ ys) = eqb x y && same xs ys
+
+-- A case: what is computed, and what the paper gives.
+abbrev pub Case : Type 0
+Case = List ℕ × List ℕ
+
+-- In each case what is computed is what the paper gives.
+abbrev pub right : List Case → Bool
+right [] = true
+right (c ∷ cs) = same (c .0) (c .1) && right cs
+
+-- The starred cases in the paper's order; 65535 is no default, and a room is 255 where it is not written.
+abbrev pub starred : List Case
+starred =
+    (length T ∷ judgeTable T ∷ [], 294 ∷ 0 ∷ [])
+    ∷ (map (λ (p : ℕ × ℕ). weight T (p .0) (p .1)) ((0, 3) ∷ (0, 1) ∷ (0, 2) ∷ (1, 2) ∷ (1, 3) ∷ (2, 3) ∷ []), 2 ∷ 1 ∷ 1 ∷ 1 ∷ 1 ∷ 1 ∷ [])
+    ∷ (built (compact T 0 (room 352)), 0 ∷ 352 ∷ 12 ∷ 0 ∷ 0 ∷ 65535 ∷ 65535 ∷ 65535 ∷ 65535 ∷ [])
+    ∷ (built (compact T 1 (room 332)), 0 ∷ 332 ∷ 7 ∷ 1 ∷ 1 ∷ 65535 ∷ 65535 ∷ 1 ∷ 0 ∷ [])
+    ∷ (built (compact T 2 (room 324)), 0 ∷ 324 ∷ 5 ∷ 1 ∷ 1 ∷ 65535 ∷ 0 ∷ 0 ∷ 0 ∷ [])
+    ∷ (map (λ p. scan T2 0 p (room 12) .state) (beginnings aabbb), 1 ∷ 1 ∷ 2 ∷ 3 ∷ 0 ∷ [])
+    ∷ (scanned (scan T2 0 aabbb (room 12)), 0 ∷ 5 ∷ 0 ∷ 2 ∷ 2 ∷ (bytes32 2 ++ bytes16 7 ++ bytes32 3 ++ bytes16 9))
+    ∷ (scanned (scan T2 0 aabbb (room 6)), 0 ∷ 3 ∷ 2 ∷ 1 ∷ 1 ∷ (bytes32 2 ++ bytes16 7))
+    ∷ (scanned (scan T2 0 aabbb (room 5)), 0 ∷ 2 ∷ 1 ∷ 0 ∷ 1 ∷ room 5)
+    ∷ (built (write T (all16 (3 ∷ 3 ∷ 3 ∷ 65535 ∷ [])) (room 324)), 0 ∷ 324 ∷ 5 ∷ 1 ∷ 1 ∷ 3 ∷ 3 ∷ 3 ∷ 65535 ∷ [])
+    ∷ (scanned (scan T3 0 (97 ∷ []) (room 6)), 0 ∷ 1 ∷ 1 ∷ 0 ∷ 1 ∷ room 6)
+    ∷ (built (write three (all16 (65535 ∷ 0 ∷ 1 ∷ [])) (room 314)), 0 ∷ 314 ∷ 4 ∷ 2 ∷ 1 ∷ 65535 ∷ 0 ∷ 1 ∷ [])
+    ∷ (built (compact eight 2 (room 340)), 0 ∷ 340 ∷ 3 ∷ 1 ∷ 1 ∷ 65535 ∷ 0 ∷ 0 ∷ 0 ∷ 0 ∷ 0 ∷ 0 ∷ 0 ∷ [])
+    ∷ (map checkWord ([] ∷ (1 ∷ 2 ∷ []) ∷ (65535 ∷ 1 ∷ []) ∷ []), 65535 ∷ 65532 ∷ 65534 ∷ [])
+    ∷ []

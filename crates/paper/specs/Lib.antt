@@ -1,0 +1,14 @@
+pub mod Below
+pub mod Words
+pub mod Refusals
+pub mod Table
+pub mod View
+pub mod Image
+pub mod Results
+pub mod Forest
+pub mod Paths
+pub mod Scan
+pub mod Operations
+pub mod Promises
+pub mod Sentences
+pub mod Cases

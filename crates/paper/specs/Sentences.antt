@@ -1,0 +1,135 @@
+-- The grounds as the paper's sentences: the number of each refusal and when it is given, as a proposition beside the test that computes.
+use mathlib.Core.Path.{_≡_}
+use mathlib.Core.Logic.{_⊎_}
+use mathlib.Core.List.{List, [], _∷_, _++_}
+use mathlib.Core.Option.{Option, none, some}
+use Prim.Native.Nat.{ℕ, suc, _+_, _-_, _*_, _/_, _<_}
+use lib.ListN.{length, take}
+use Rattle.paper.specs.Below.{sum}
+use Rattle.paper.specs.Words.{words, checkWord}
+use Rattle.paper.specs.Table as table
+use Rattle.paper.specs.Table.{tableLength}
+use Rattle.paper.specs.View.{View, stored, steps, depthOf, worstOf}
+use Rattle.paper.specs.Image as image
+use Rattle.paper.specs.Image.{imageLength, imageView}
+use Rattle.paper.specs.Results.{tableView, imageOf, tableOf}
+use Rattle.paper.specs.Forest.{defaults}
+use Rattle.paper.specs.Operations.{listed, compacted}
+
+-- A sentence: the refusal's number, and when it is given.
+abbrev pub Sentence : Type 1
+Sentence = ℕ × Type 0
+
+-- The number is that of the first sentence that holds, 0 where none does.
+abbrev pub FirstOf : List Sentence → ℕ → Type 0
+FirstOf [] number = number ≡ 0
+FirstOf (s ∷ ss) number = (s .1 × (number ≡ s .0)) ⊎ ((¬ s .1) × FirstOf ss number)
+
+-- Some number below n is such.
+abbrev pub Some : ℕ → (ℕ → Type 0) → Type 0
+Some n P = (i : ℕ) × (i < n) × P i
+
+-- The number x is below a or above b.
+abbrev pub OutOf : ℕ → ℕ → ℕ → Type 0
+OutOf a b x = (x < a) ⊎ (b < x)
+
+-- A byte's class is not below k, or there is a class below k that no byte has.
+abbrev pub ClassesWrong : ℕ → (ℕ → ℕ) → Type 0
+ClassesWrong k classOf = Some 256 (λ x. ¬ (classOf x < k)) ⊎ Some k (λ c. ¬ Some 256 (λ x. classOf x ≡ c))
+
+-- Tables: 1, 2, 3, 6, 7, 10.
+unfoldable pub tableSentences : List ℕ → List Sentence
+tableSentences t =
+    let n = table.states t in
+    let k = table.classes t in
+    (1, length t < 6)
+    ∷ (2, OutOf 1 512 n ⊎ OutOf 1 256 k)
+    ∷ (3, ¬ (length t ≡ tableLength n k))
+    ∷ (6, ¬ (table.start t < n))
+    ∷ (7, ClassesWrong k (table.classOf t))
+    ∷ (10, Some n (λ s. Some k (λ c. ¬ (table.next t s c < n))))
+    ∷ []
+
+module _ (v : View) where
+  -- A default that is not below n stands in the place of a default.
+  abbrev pub DefaultWrong : Option ℕ → Type 0
+  DefaultWrong o = (d : ℕ) × (o ≡ some d) × (¬ (d < v .states))
+
+  -- A record is wrong: a default neither 65535 nor below n, a count above k, or no default and a count other than k.
+  abbrev pub RecordWrong : ℕ → Type 0
+  RecordWrong s = DefaultWrong (v .default s) ⊎ ((v .classes < v .count s) ⊎ ((v .default s ≡ none) × (¬ (v .count s ≡ v .classes))))
+
+  -- An entry's class is not below k, or not above the one before in its state.
+  abbrev pub ClassWrong : ℕ → ℕ → Type 0
+  ClassWrong s j = (¬ (v .entryClass s j < v .classes)) ⊎ ((i : ℕ) × (j ≡ suc i) × (¬ (v .entryClass s i < v .entryClass s j)))
+
+  -- Some entry of some state is such.
+  abbrev pub SomeEntry : (ℕ → ℕ → Type 0) → Type 0
+  SomeEntry P = Some (v .states) (λ s. Some (v .count s) (P s))
+
+  -- The chain of a state returns to a state: it comes by it twice.
+  abbrev pub Returns : ℕ → Type 0
+  Returns s = (i : ℕ) × (j : ℕ) × (x : ℕ) × (i < j) × (steps v i s ≡ some x) × (steps v j s ≡ some x)
+
+  -- The chain of a state gives a target for a class after so many hops: the state so many steps on stores it, and none before stores the class.
+  pub record Serves (s c hops target : ℕ) : Type 0 where
+    pub server : ℕ
+    pub reached : steps v hops s ≡ some server
+    pub stores : stored v server c ≡ some target
+    pub passed : (i x : ℕ) → i < hops → steps v i s ≡ some x → stored v x c ≡ none
+
+  -- An entry is equal to what its state's default's chain gives for its class.
+  abbrev pub EntryNeedless : ℕ → ℕ → Type 0
+  EntryNeedless s j = (d : ℕ) × (v .default s ≡ some d) × ((hops : ℕ) × Serves d (v .entryClass s j) hops (v .entryNext s j))
+
+  -- The grounds 8 to 13.
+  unfoldable pub viewSentences : (ℕ → ℕ) → ℕ → ℕ → ℕ → List Sentence
+  viewSentences classOf m depth worst =
+      (8, Some (v .states) RecordWrong ⊎ (¬ (sum (v .states) (v .count) ≡ m)))
+      ∷ (9, SomeEntry ClassWrong)
+      ∷ (10, SomeEntry (λ s j. ¬ (v .entryNext s j < v .states)))
+      ∷ (11, Some (v .states) Returns)
+      ∷ (12, SomeEntry EntryNeedless)
+      ∷ (13, (¬ (depth ≡ depthOf v)) ⊎ (¬ (worst ≡ worstOf v classOf)))
+      ∷ []
+
+-- Images: 1 to 13.
+unfoldable pub imageSentences : List ℕ → List Sentence
+imageSentences b =
+    let n = image.states b in
+    let k = image.classes b in
+    let m = image.entries b in
+    (1, length b < 24)
+    ∷ (2, OutOf 1 512 n ⊎ (OutOf 1 256 k ⊎ OutOf k (n * k) m))
+    ∷ (3, ¬ (length b ≡ imageLength n m))
+    ∷ (4, (¬ (image.wholeLength b ≡ length b)) ⊎ (¬ (image.distanceBack b ≡ 4 * m + 12)))
+    ∷ (5, ¬ (image.check b ≡ checkWord (words (take (length b - 2) b))))
+    ∷ (6, ¬ (image.start b < n))
+    ∷ (7, ClassesWrong k (image.classOf b))
+    ∷ viewSentences (imageView b) (image.classOf b) m (image.depth b) (image.worst b)
+
+-- Compact: the table's, 17, 16.
+unfoldable pub compactSentences : List ℕ → ℕ → ℕ → List Sentence
+compactSentences t D room =
+    tableSentences t
+    ++ ((17, (D + 1) / 2 < depthOf (tableView t (defaults t D)))
+    ∷ (16, room < length (compacted t D))
+    ∷ [])
+
+-- Write: the table's, 8 (list length and values only), 11, 16.
+unfoldable pub writeSentences : List ℕ → List ℕ → ℕ → List Sentence
+writeSentences t ds room =
+    let v = tableView t (listed ds) in
+    tableSentences t
+    ++ ((8, (¬ (length ds ≡ 2 * table.states t)) ⊎ Some (table.states t) (λ s. DefaultWrong v (listed ds s)))
+    ∷ (11, Some (table.states t) (Returns v))
+    ∷ (16, room < length (imageOf t (listed ds)))
+    ∷ [])
+
+-- Expand: the image's, 16.
+unfoldable pub expandSentences : List ℕ → ℕ → List Sentence
+expandSentences b room = imageSentences b ++ ((16, room < length (tableOf b)) ∷ [])
+
+-- Scan: the image's, 14, 15.
+unfoldable pub scanSentences : List ℕ → ℕ → List ℕ → List Sentence
+scanSentences b s payload = imageSentences b ++ ((14, ¬ (s < image.states b)) ∷ (15, 65536 < length payload) ∷ [])

@@ -1,0 +1,376 @@
+#include "reference.h"
+
+#include <stdlib.h>
+#include <string.h>
+
+enum { NONE = 65535, MOST_STATES = 512, MOST_CLASSES = 256 };
+
+static uint32_t read16(const uint8_t *b, size_t at) { return b[at] | (uint32_t)b[at + 1] << 8; }
+static uint32_t read32(const uint8_t *b, size_t at) { return read16(b, at) | read16(b, at + 2) << 16; }
+
+static void append16(uint8_t **p, uint32_t x) {
+    *(*p)++ = x & 255;
+    *(*p)++ = x >> 8 & 255;
+}
+
+static void append32(uint8_t **p, uint32_t x) {
+    append16(p, x & 65535);
+    append16(p, x >> 16);
+}
+
+/* RFC 1071, the carry brought round after every word. */
+static uint32_t check_word(const uint8_t *b, size_t length) {
+    uint32_t sum = 0;
+    for (size_t i = 0; i < length; i += 2) {
+        sum += b[i] + (i + 1 < length ? 256u * b[i + 1] : 0);
+        if (sum > 65535) sum -= 65535;
+    }
+    return 65535 - sum;
+}
+
+/* The table as numbers. */
+typedef struct {
+    uint32_t n, k, start;
+    uint8_t class_of[256];
+    uint32_t label[MOST_STATES];
+    uint32_t next[MOST_STATES][MOST_CLASSES];
+} numbers;
+
+/* The entries that each state stores: -1 for nothing stored here. */
+typedef struct {
+    uint32_t fallback[MOST_STATES];
+    int32_t stored[MOST_STATES][MOST_CLASSES];
+} rows;
+
+static uint32_t classes_wrong(const uint8_t *class_of, uint32_t k) {
+    int seen[256] = {0};
+    for (int x = 0; x < 256; x++) {
+        if (class_of[x] >= k) return 1;
+        seen[class_of[x]] = 1;
+    }
+    for (uint32_t c = 0; c < k; c++)
+        if (!seen[c]) return 1;
+    return 0;
+}
+
+uint32_t reference_judge_table(const uint8_t *t, size_t length) {
+    if (length < 6) return 1;
+    size_t n = read16(t, 0), k = read16(t, 2);
+    if (n < 1 || n > MOST_STATES || k < 1 || k > MOST_CLASSES) return 2;
+    if (length != 262 + 2 * n + 2 * n * k) return 3;
+    if (read16(t, 4) >= n) return 6;
+    if (classes_wrong(t + 6, (uint32_t)k)) return 7;
+    for (size_t i = 0; i < n * k; i++)
+        if (read16(t, 262 + 2 * n + 2 * i) >= n) return 10;
+    return 0;
+}
+
+static numbers *table_numbers(const uint8_t *t) {
+    numbers *a = calloc(1, sizeof *a);
+    a->n = read16(t, 0);
+    a->k = read16(t, 2);
+    a->start = read16(t, 4);
+    memcpy(a->class_of, t + 6, 256);
+    for (uint32_t s = 0; s < a->n; s++) {
+        a->label[s] = read16(t, 262 + 2 * s);
+        for (uint32_t c = 0; c < a->k; c++) a->next[s][c] = read16(t, 262 + 2 * a->n + 2 * (s * a->k + c));
+    }
+    return a;
+}
+
+/* The steps from s to its root, or -1 where its chain does not end. */
+static int chain_length(const uint32_t *fallback, uint32_t n, uint32_t s) {
+    uint32_t steps = 0;
+    for (; fallback[s] != NONE; s = fallback[s])
+        if (++steps > n) return -1;
+    return (int)steps;
+}
+
+static uint32_t look_up(const rows *r, uint32_t s, uint32_t c, uint32_t *hops) {
+    *hops = 0;
+    while (r->stored[s][c] < 0) {
+        s = r->fallback[s];
+        ++*hops;
+    }
+    return (uint32_t)r->stored[s][c];
+}
+
+static uint32_t depth_of(const rows *r, uint32_t n) {
+    uint32_t depth = 0;
+    for (uint32_t s = 0; s < n; s++) {
+        uint32_t l = (uint32_t)chain_length(r->fallback, n, s);
+        if (l > depth) depth = l;
+    }
+    return depth;
+}
+
+static uint32_t worst_of(const rows *r, uint32_t n, const uint8_t *class_of) {
+    uint32_t worst = 0, hops;
+    for (uint32_t s = 0; s < n; s++)
+        for (int x = 0; x < 256; x++) {
+            look_up(r, s, class_of[x], &hops);
+            if (hops > worst) worst = hops;
+        }
+    return worst;
+}
+
+uint32_t reference_judge_image(const uint8_t *b, size_t length) {
+    if (length < 24) return 1;
+    uint64_t n = read16(b, 0), k = read16(b, 2), m = read32(b, 8);
+    if (n < 1 || n > MOST_STATES || k < 1 || k > MOST_CLASSES || m < k || m > n * k) return 2;
+    if (length != 280 + 6 * n + 4 * m) return 3;
+    if (read32(b, length - 8) != length || read32(b, length - 12) != 4 * m + 12) return 4;
+    if (read16(b, length - 2) != check_word(b, length - 2)) return 5;
+    if (read16(b, 4) >= n) return 6;
+    if (classes_wrong(b + 12, (uint32_t)k)) return 7;
+    size_t records = 268 + 2 * n, entries = records + 4 * n;
+    uint64_t sum = 0;
+    for (size_t s = 0; s < n; s++) {
+        uint32_t d = read16(b, records + 4 * s), count = read16(b, records + 4 * s + 2);
+        if ((d != NONE && d >= n) || count > k || (d == NONE && count != k)) return 8;
+        sum += count;
+    }
+    if (sum != m) return 8;
+    size_t at = entries;
+    for (size_t s = 0; s < n; s++) {
+        uint32_t count = read16(b, records + 4 * s + 2);
+        for (uint32_t j = 0; j < count; j++)
+            if (read16(b, at + 4 * j) >= k || (j > 0 && read16(b, at + 4 * j) <= read16(b, at + 4 * j - 4))) return 9;
+        at += 4 * count;
+    }
+    for (size_t j = 0; j < m; j++)
+        if (read16(b, entries + 4 * j + 2) >= n) return 10;
+    rows *r = malloc(sizeof *r);
+    memset(r->stored, 255, sizeof r->stored);
+    at = entries;
+    for (size_t s = 0; s < n; s++) {
+        uint32_t count = read16(b, records + 4 * s + 2);
+        r->fallback[s] = read16(b, records + 4 * s);
+        for (uint32_t j = 0; j < count; j++, at += 4) r->stored[s][read16(b, at)] = (int32_t)read16(b, at + 2);
+    }
+    uint32_t refused = 0;
+    for (uint32_t s = 0; s < n && !refused; s++)
+        if (chain_length(r->fallback, (uint32_t)n, s) < 0) refused = 11;
+    for (uint32_t s = 0; s < n && !refused; s++)
+        for (uint32_t c = 0; c < k && !refused; c++) {
+            uint32_t hops;
+            if (r->fallback[s] != NONE && r->stored[s][c] >= 0 && look_up(r, r->fallback[s], c, &hops) == (uint32_t)r->stored[s][c]) refused = 12;
+        }
+    if (!refused && (read16(b, 6) != depth_of(r, (uint32_t)n) || read16(b, length - 4) != worst_of(r, (uint32_t)n, b + 12))) refused = 13;
+    free(r);
+    return refused;
+}
+
+/* The image of a table with defaults, into a new block; the caller frees it. */
+static uint8_t *image_of(const numbers *a, const uint32_t *fallback, size_t *length) {
+    rows *r = malloc(sizeof *r);
+    memset(r->stored, 255, sizeof r->stored);
+    memcpy(r->fallback, fallback, sizeof r->fallback);
+    uint32_t m = 0, count[MOST_STATES] = {0};
+    for (uint32_t s = 0; s < a->n; s++)
+        for (uint32_t c = 0; c < a->k; c++)
+            if (fallback[s] == NONE || a->next[s][c] != a->next[fallback[s]][c]) {
+                r->stored[s][c] = (int32_t)a->next[s][c];
+                count[s]++;
+                m++;
+            }
+    *length = 280 + 6 * a->n + 4 * m;
+    uint8_t *image = malloc(*length), *p = image;
+    append16(&p, a->n);
+    append16(&p, a->k);
+    append16(&p, a->start);
+    append16(&p, depth_of(r, a->n));
+    append32(&p, m);
+    memcpy(p, a->class_of, 256);
+    p += 256;
+    for (uint32_t s = 0; s < a->n; s++) append16(&p, a->label[s]);
+    for (uint32_t s = 0; s < a->n; s++) {
+        append16(&p, fallback[s]);
+        append16(&p, count[s]);
+    }
+    for (uint32_t s = 0; s < a->n; s++)
+        for (uint32_t c = 0; c < a->k; c++)
+            if (r->stored[s][c] >= 0) {
+                append16(&p, c);
+                append16(&p, (uint32_t)r->stored[s][c]);
+            }
+    append32(&p, 4 * m + 12);
+    append32(&p, (uint32_t)*length);
+    append16(&p, worst_of(r, a->n, a->class_of));
+    append16(&p, check_word(image, *length - 2));
+    free(r);
+    return image;
+}
+
+static reference_built fill(uint8_t *result, size_t length, uint8_t *room, size_t room_length) {
+    reference_built answer = {0, 0};
+    if (room_length < length) {
+        answer.refused = 16;
+    } else {
+        memcpy(room, result, length);
+        answer.length = (uint32_t)length;
+    }
+    free(result);
+    return answer;
+}
+
+static reference_built refuse(uint32_t number) {
+    reference_built answer = {number, 0};
+    return answer;
+}
+
+reference_built reference_write(const uint8_t *t, size_t length, const uint8_t *defaults, size_t defaults_length, uint8_t *room,
+                                size_t room_length) {
+    uint32_t refused = reference_judge_table(t, length);
+    if (refused) return refuse(refused);
+    uint32_t n = read16(t, 0), fallback[MOST_STATES];
+    if (defaults_length != 2 * (size_t)n) return refuse(8);
+    for (uint32_t s = 0; s < n; s++) {
+        fallback[s] = read16(defaults, 2 * s);
+        if (fallback[s] != NONE && fallback[s] >= n) return refuse(8);
+    }
+    for (uint32_t s = 0; s < n; s++)
+        if (chain_length(fallback, n, s) < 0) return refuse(11);
+    numbers *a = table_numbers(t);
+    size_t result_length;
+    uint8_t *result = image_of(a, fallback, &result_length);
+    free(a);
+    return fill(result, result_length, room, room_length);
+}
+
+/* The forest: distances by a search over the pairs added, anew at each question. */
+typedef struct {
+    uint32_t n;
+    uint8_t joined[MOST_STATES][MOST_STATES];
+} forest;
+
+/* The distances from s over the pairs added; -1 for another tree. Answers the largest. */
+static int distances(const forest *f, uint32_t s, int *distance) {
+    uint32_t queue[MOST_STATES], head = 0, tail = 0;
+    for (uint32_t x = 0; x < f->n; x++) distance[x] = -1;
+    distance[s] = 0;
+    queue[tail++] = s;
+    int far = 0;
+    while (head < tail) {
+        uint32_t x = queue[head++];
+        far = distance[x];
+        for (uint32_t y = 0; y < f->n; y++)
+            if (f->joined[x][y] && distance[y] < 0) {
+                distance[y] = distance[x] + 1;
+                queue[tail++] = y;
+            }
+    }
+    return far;
+}
+
+/* The longest path of the tree of s. */
+static int longest(const forest *f, uint32_t s) {
+    int distance[MOST_STATES], other[MOST_STATES], most = 0;
+    distances(f, s, distance);
+    for (uint32_t x = 0; x < f->n; x++)
+        if (distance[x] >= 0) {
+            int far = distances(f, x, other);
+            if (far > most) most = far;
+        }
+    return most;
+}
+
+reference_built reference_compact(const uint8_t *t, size_t length, uint32_t bound, uint8_t *room, size_t room_length) {
+    uint32_t refused = reference_judge_table(t, length);
+    if (refused) return refuse(refused);
+    numbers *a = table_numbers(t);
+    forest *f = calloc(1, sizeof *f);
+    f->n = a->n;
+    int distance[MOST_STATES], other[MOST_STATES];
+    for (int w = (int)a->k - 1; w >= 1; w--)
+        for (uint32_t u = 0; u < a->n; u++)
+            for (uint32_t v = u + 1; v < a->n; v++) {
+                int same = 0;
+                for (uint32_t c = 0; c < a->k; c++) same += a->next[u][c] == a->next[v][c];
+                if (same - 1 != w) continue;
+                distances(f, u, distance);
+                if (distance[v] >= 0) continue;
+                f->joined[u][v] = f->joined[v][u] = 1;
+                if ((uint32_t)longest(f, u) > bound) f->joined[u][v] = f->joined[v][u] = 0;
+            }
+    uint32_t fallback[MOST_STATES];
+    for (uint32_t x = 0; x < a->n; x++) {
+        uint32_t root = x;
+        int least = -1;
+        distances(f, x, distance);
+        for (uint32_t y = 0; y < a->n; y++)
+            if (distance[y] >= 0) {
+                int far = distances(f, y, other);
+                if (least < 0 || far < least) {
+                    least = far;
+                    root = y;
+                }
+            }
+        fallback[x] = NONE;
+        distances(f, root, distance);
+        for (uint32_t y = 0; y < a->n; y++)
+            if (f->joined[x][y] && distance[y] == distance[x] - 1) fallback[x] = y;
+    }
+    size_t result_length;
+    uint8_t *result = image_of(a, fallback, &result_length);
+    uint32_t depth = read16(result, 6);
+    free(a);
+    free(f);
+    if (depth > bound / 2 + bound % 2) {
+        free(result);
+        return refuse(17);
+    }
+    return fill(result, result_length, room, room_length);
+}
+
+static rows *image_rows(const uint8_t *b) {
+    rows *r = malloc(sizeof *r);
+    memset(r->stored, 255, sizeof r->stored);
+    uint32_t n = read16(b, 0);
+    size_t records = 268 + 2 * (size_t)n, at = records + 4 * (size_t)n;
+    for (uint32_t s = 0; s < n; s++) {
+        r->fallback[s] = read16(b, records + 4 * s);
+        for (uint32_t j = read16(b, records + 4 * s + 2); j > 0; j--, at += 4) r->stored[s][read16(b, at)] = (int32_t)read16(b, at + 2);
+    }
+    return r;
+}
+
+reference_built reference_expand(const uint8_t *b, size_t length, uint8_t *room, size_t room_length) {
+    uint32_t refused = reference_judge_image(b, length);
+    if (refused) return refuse(refused);
+    uint32_t n = read16(b, 0), k = read16(b, 2), hops;
+    rows *r = image_rows(b);
+    size_t result_length = 262 + 2 * (size_t)n + 2 * (size_t)n * k;
+    uint8_t *result = malloc(result_length), *p = result;
+    memcpy(p, b, 6);
+    memcpy(p + 6, b + 12, 256 + 2 * (size_t)n);
+    p += 262 + 2 * (size_t)n;
+    for (uint32_t s = 0; s < n; s++)
+        for (uint32_t c = 0; c < k; c++) append16(&p, look_up(r, s, c, &hops));
+    free(r);
+    return fill(result, result_length, room, room_length);
+}
+
+reference_scanned reference_scan(const uint8_t *b, size_t length, uint32_t state, const uint8_t *payload, size_t payload_length,
+                                 uint8_t *room, size_t room_length) {
+    reference_scanned answer = {reference_judge_image(b, length), 0, 0, 0, 0};
+    if (!answer.refused && state >= read16(b, 0)) answer.refused = 14;
+    if (!answer.refused && payload_length > 65536) answer.refused = 15;
+    if (answer.refused) return answer;
+    rows *r = image_rows(b);
+    answer.state = state;
+    for (size_t i = 0; i < payload_length; i++) {
+        uint32_t hops, to = look_up(r, answer.state, b[12 + payload[i]], &hops), label = read16(b, 268 + 2 * to);
+        if (label) {
+            if (6 * ((size_t)answer.reports + 1) > room_length) break;
+            uint8_t *p = room + 6 * answer.reports++;
+            append32(&p, (uint32_t)i);
+            append16(&p, label);
+        }
+        answer.state = to;
+        answer.hops += hops;
+        answer.taken++;
+    }
+    free(r);
+    return answer;
+}
