@@ -63,6 +63,7 @@ image-facts b (_, (g₂, (g₃, (g₄, (g₅, (g₆, (g₇, view))))))) =
       stated = states-so;
     }
 
+-- No ground applies to an image of which the facts hold.
 pub image-clear : (b : List ℕ) → AcceptedImage b → Clear (imageGrounds b)
 unfolding imageGrounds
 image-clear b A =
@@ -94,6 +95,7 @@ pub accepted-image : (b : List ℕ) → judgeImage b ≡ 0 → AcceptedImage b
 unfolding judgeImage imageGrounds viewGrounds
 accepted-image b e = image-facts b (accepted (imageGrounds b) refl e)
 
+-- And the other way.
 pub image-accepted : (b : List ℕ) → AcceptedImage b → judgeImage b ≡ 0
 unfolding judgeImage
 image-accepted b A = cleared (imageGrounds b) (image-clear b A)

@@ -1,7 +1,6 @@
 -- An accepted table as plain facts, and back.
 use mathlib.Core.Path.{_≡_, refl}
-use mathlib.Core.Bool.{Bool, true, false, not, _||_}
-use mathlib.Core.Logic.{inl, inr}
+use mathlib.Core.Bool.{Bool, false, not, _||_}
 use mathlib.Core.List.{List}
 use Prim.Native.Nat.{ℕ, _≤_, _<_}
 use native.Mathlib.Omega.{arith}
@@ -48,6 +47,7 @@ module _ (bytes k : ℕ) (classOf : ℕ → ℕ) where
 pub classed : (k : ℕ) (classOf : ℕ → ℕ) → classesBad k classOf ≡ false → Classed 256 k classOf
 classed = classed-among 256
 
+-- And the other way.
 pub classed-clear : (k : ℕ) (classOf : ℕ → ℕ) → Classed 256 k classOf → classesBad k classOf ≡ false
 classed-clear = among-classed 256
 
@@ -81,6 +81,7 @@ table-facts t (_, (g₂, (g₃, (g₆, (g₇, (g₁₀, _)))))) =
       inside = λ s c hs hc. leb-false n (next t s c) (any-at k c (λ c. leb n (next t s c)) (any-at n s (λ s. any k (λ c. leb n (next t s c))) g₁₀ hs) hc);
     }
 
+-- No ground applies to a table of which the facts hold.
 pub table-clear : (t : List ℕ) → AcceptedTable t → Clear (tableGrounds t)
 unfolding tableGrounds
 table-clear t A =
@@ -110,6 +111,7 @@ pub accepted-table : (t : List ℕ) → judgeTable t ≡ 0 → AcceptedTable t
 unfolding judgeTable tableGrounds
 accepted-table t e = table-facts t (accepted (tableGrounds t) refl e)
 
+-- And the other way.
 pub table-accepted : (t : List ℕ) → AcceptedTable t → judgeTable t ≡ 0
 unfolding judgeTable
 table-accepted t A = cleared (tableGrounds t) (table-clear t A)

@@ -1,7 +1,6 @@
 -- A view of which none of the grounds 8 to 13 holds, as plain facts, and back.
-use mathlib.Core.Path.{_≡_, refl, sym, ap, _∙_}
-use mathlib.Core.Bool.{Bool, false, not, _&&_, true≢false}
-use mathlib.Core.Logic.{inl}
+use mathlib.Core.Path.{_≡_, refl, ap}
+use mathlib.Core.Bool.{Bool, false, not, _&&_}
 use mathlib.Core.Option.{Option, none, some}
 use Prim.Native.Nat.{ℕ, zero, suc, _≤_, _<_}
 use native.Mathlib.Omega.{arith}
@@ -44,6 +43,7 @@ root-full k count (some d) e q = absurd (none≢some (some d) d q refl)
 pub any-two : (n i j : ℕ) (m : ℕ → ℕ) (p : ℕ → ℕ → Bool) → any n (λ i. any (m i) (p i)) ≡ false → i < n → j < m i → p i j ≡ false
 any-two n i j m p e hi hj = any-at (m i) j (p i) (any-at n i (λ i. any (m i) (p i)) e hi) hj
 
+-- And the other way.
 pub any-neither : (n : ℕ) (m : ℕ → ℕ) (p : ℕ → ℕ → Bool) → ((i j : ℕ) → i < n → j < m i → p i j ≡ false) → any n (λ i. any (m i) (p i)) ≡ false
 any-neither n m p h = any-none n (λ i. any (m i) (p i)) (λ i hi. any-none (m i) (p i) (λ j hj. h i j hi hj))
 

@@ -1,5 +1,5 @@
 -- Laws of tests, largest numbers and first values over the numbers below n.
-use mathlib.Core.Path.{_≡_, refl, sym, ap, ap₂, _∙_}
+use mathlib.Core.Path.{_≡_, refl, sym, ap₂, _∙_}
 use mathlib.Core.Bool.{Bool, true, false, _&&_, _||_, or-true, true≢false}
 use mathlib.Core.Logic.{_⊎_, inl, inr}
 use mathlib.Core.List.{List, _++_}
@@ -26,6 +26,7 @@ pub every-all : (n : ℕ) (p : ℕ → Bool) → ((i : ℕ) → i < n → p i �
 every-all zero p h = refl
 every-all (suc n) p h = rw (every-all n p (λ i hi. h i (omega arith)), h n (omega arith))
 
+-- Where it passes everywhere, it passes at each number.
 pub every-at : (n i : ℕ) (p : ℕ → Bool) → every n p ≡ true → i < n → p i ≡ true
 every-at zero i p e h = absurd (not-suc-le-zero h)
 every-at (suc n) i p e h = go (ℕ-discrete i n) (and-true (every n p) (p n) e) (every-at n i p)
@@ -62,11 +63,12 @@ any-some (suc n) p e = go (p n) refl (any n p) refl e (any-some n p)
 pub any-at : (n i : ℕ) (p : ℕ → Bool) → any n p ≡ false → i < n → p i ≡ false
 any-at n i p h l = bool-false (p i) (λ e. true≢false (sym (any-found n i p l e) ∙ h))
 
+-- And the other way.
 pub any-none : (n : ℕ) (p : ℕ → Bool) → ((i : ℕ) → i < n → p i ≡ false) → any n p ≡ false
 any-none zero p h = refl
 any-none (suc n) p h = rw (any-none n p (λ i hi. h i (omega arith)), h n (omega arith))
 
--- The largest is not below any, not above what none is above, and 0 or one of them.
+-- The largest is not below any.
 pub largest-upper : (n i : ℕ) (f : ℕ → ℕ) → i < n → f i ≤ largest n f
 largest-upper zero i f h = absurd (not-suc-le-zero h)
 largest-upper (suc n) i f h = go (ℕ-discrete i n) (largest-upper n i f)
@@ -75,10 +77,12 @@ largest-upper (suc n) i f h = go (ℕ-discrete i n) (largest-upper n i f)
     go (yes q) ih = rw q (omega arith)
     go (no q) ih = omega (arith, ih (omega arith))
 
+-- It is not above what none is above.
 pub largest-least : (n m : ℕ) (f : ℕ → ℕ) → ((i : ℕ) → i < n → f i ≤ m) → largest n f ≤ m
 largest-least zero m f h = omega arith
 largest-least (suc n) m f h = omega (arith, h n (omega arith), largest-least n m f (λ i l. h i (omega arith)))
 
+-- It is 0 or one of them.
 pub largest-met : (n : ℕ) (f : ℕ → ℕ) → (largest n f ≡ 0) ⊎ ((i : ℕ) × (i < n) × (f i ≡ largest n f))
 largest-met zero f = inl refl
 largest-met (suc n) f = go (decLe (largest n f) (f n)) (largest-met n f)
@@ -138,15 +142,18 @@ pub any-same : (n : ℕ) (p q : ℕ → Bool) → ((i : ℕ) → i < n → p i �
 any-same zero p q h = refl
 any-same (suc n) p q h = ap₂ _||_ (any-same n p q (λ i hi. h i (omega arith))) (h n (omega arith))
 
+-- So with the largest.
 pub largest-same : (n : ℕ) (f g : ℕ → ℕ) → ((i : ℕ) → i < n → f i ≡ g i) → largest n f ≡ largest n g
 largest-same zero f g h = refl
 largest-same (suc n) f g h = ap₂ max (h n (omega arith)) (largest-same n f g (λ i hi. h i (omega arith)))
 
 module _ {A : Type 0} where
+  -- So with lists of lists.
   pub each-same : (n : ℕ) (f g : ℕ → List A) → ((i : ℕ) → i < n → f i ≡ g i) → each n f ≡ each n g
   each-same zero f g h = refl
   each-same (suc n) f g h = ap₂ _++_ (each-same n f g (λ i hi. h i (omega arith))) (h n (omega arith))
 
+  -- So with the first value.
   pub firstOf-same : (n : ℕ) (f g : ℕ → Option A) → ((i : ℕ) → i < n → f i ≡ g i) → firstOf n f ≡ firstOf n g
   firstOf-same zero f g h = refl
   firstOf-same (suc n) f g h = ap₂ orElse (firstOf-same n f g (λ i hi. h i (omega arith))) (h n (omega arith))

@@ -1,7 +1,7 @@
 -- The starred cases are right, by computation.
 use mathlib.Core.Path.{_≡_, refl, ap}
 use mathlib.Core.Bool.{Bool, true, cond}
-use mathlib.Core.List.{List, [], _∷_}
+use mathlib.Core.List.{[], _∷_}
 use Prim.Native.Nat.{ℕ, _+_, _/_, zero-le}
 use borrow.Author.Tests.{le-ltb}
 use Rattle.paper.specs.Words.{number16, number32, bytes16, bytes32, _⊕_, checkWord}

@@ -7,7 +7,7 @@ use native.Mathlib.Omega.{arith}
 use Rattle.paper.specs.Below.{or}
 use Rattle.paper.specs.View.{View, chain, chained, longer, steps, andThen, depthOf}
 use Rattle.paper.proofs.Tests.{none≢some}
-use Rattle.paper.proofs.Below.{largest-upper, largest-least, largest-attained}
+use Rattle.paper.proofs.Below.{largest-upper, largest-attained}
 
 -- A value that is there is one value.
 pub some-same : {a b : ℕ} → _≡_ {A = Option ℕ} (some a) (some b) → a ≡ b
@@ -53,7 +53,7 @@ module _ (v : View) where
       go none q e ih = absurd (none≢some none x refl e)
       go (some d) q e ih = ih d (inside s d h q) e
 
-  -- A chain's length is what it says: it ends after so many steps, fewer than the fuel.
+  -- A chain's length is what it says: it ends after so many steps.
   pub chain-ends : (left s l : ℕ) → chain v left s ≡ some l → Ends s l
   chain-ends zero s l e = absurd (none≢some none l refl e)
   chain-ends (suc left) s l e = go (v .default s) refl e (λ d k. chain-ends left d k)
@@ -65,6 +65,7 @@ module _ (v : View) where
           let E = ih d k w in
           rw r (record { last = E .last; reached = steps-next k s d q ∙ E .reached; root = E .root })
 
+  -- The length is below the fuel.
   pub chain-short : (left s l : ℕ) → chain v left s ≡ some l → l < left
   chain-short zero s l e = absurd (none≢some none l refl e)
   chain-short (suc left) s l e = go (v .default s) e (λ d k. chain-short left d k)
@@ -73,6 +74,7 @@ module _ (v : View) where
       go none e ih = omega (arith, some-same e)
       go (some d) e ih = let (k, q, r) = longer-some (chain v left d) l e in omega (arith, ih d k q)
 
+  -- A chain that ends after fewer steps than the fuel has that length.
   pub ends-chain : (left s l : ℕ) → Ends s l → l < left → chain v left s ≡ some l
   ends-chain zero s l E h = absurd (not-suc-le-zero h)
   ends-chain (suc left) s zero E h = rw (ap (v .default) (some-same (E .reached)) ∙ E .root)
@@ -150,10 +152,12 @@ chain-dropped v w kept (suc f) s l e = go (w .default s) refl (chain-dropped v w
 
 -- The depth is the longest chain: every chain that ends is at most so long, and where all end one is so long.
 module _ (v : View) where
+  -- No chain that ends is longer.
   pub depth-longest : (s l : ℕ) → s < v .states → chain v (v .states) s ≡ some l → l ≤ depthOf v
   unfolding depthOf
   depth-longest s l h e = omega (arith, largest-upper (v .states) s (λ s. or (chain v (v .states) s) 0) h, ap (λ (o : Option ℕ). or o 0) e)
 
+  -- Where all end, one is so long.
   pub depth-met : 0 < v .states → ((s : ℕ) → s < v .states → (l : ℕ) × (chain v (v .states) s ≡ some l))
       → (s : ℕ) × (s < v .states) × (chain v (v .states) s ≡ some (depthOf v))
   unfolding depthOf

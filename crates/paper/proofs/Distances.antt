@@ -2,12 +2,13 @@
 use mathlib.Core.Path.{_≡_, refl, sym, ap, _∙_, subst}
 use mathlib.Core.Logic.{_⊎_, inl, inr}
 use mathlib.Core.List.{List, [], _∷_, _++_}
-use Prim.Native.Nat.{ℕ, suc, _+_}
+use Prim.Native.Nat.{ℕ, _+_}
 use native.Mathlib.Omega.{arith}
 use lib.ListN.{length, length-append}
 use Rattle.paper.specs.Forest.{Trees, singles, joined}
 use Rattle.paper.specs.Paths.{Among, Over, Once, Crosses, Leads, Path}
-use Rattle.paper.proofs.Joined.{Mates, distance-same, distance-uv, distance-vu, mates-before, mates-kept, mates-met}
+use Rattle.paper.proofs.Join.{Mates}
+use Rattle.paper.proofs.Bridge.{Reached, Bridge, turned, joined-bridge}
 use Rattle.paper.proofs.Paths.{Cut, At, among-append, among-left, among-right, leads-append, leads-cut, find-pair, once-append, once-left, once-right, over-others}
 
 -- In every tree there is a path from state to state, as long as their distance; and every path that takes no pair twice stays in its tree and is so long.
@@ -86,24 +87,29 @@ module _ (F : Trees) (T : TrueDistances F) where
         split p q P Q r h (inr k) =
             far (sym mx ∙ stays p x a (P .leads) (P .over) r h ∙ sym (stays q b y (Q .leads) (Q .over) r k))
 
-    -- A way in the joined tree.
-    joined-way : (x y : ℕ) → Mates (joined F u v) x y
-        → (ps : List (ℕ × ℕ)) × (Path ((u, v) ∷ F .added) x y ps) × (length ps ≡ joined F u v .distance x y)
-    joined-way x y m = go (mates-before F u v x y m)
-      where
-        go : Mates F x y ⊎ ((Mates F x u × Mates F y v) ⊎ (Mates F x v × Mates F y u))
-            → (ps : List (ℕ × ℕ)) × (Path ((u, v) ∷ F .added) x y ps) × (length ps ≡ joined F u v .distance x y)
-        go (inl h) =
-            let (ps, P, l) = T .way x y h in
-            (ps, record { leads = P .leads; over = λ p k. inr (P .over p k); once = P .once }, l ∙ sym (distance-same F u v x y h))
-        go (inr (inl (hx, hy))) =
-            let (ps, P, l) = bridge x u v y (inl (refl, refl)) apart hx (sym hy) in (ps, P, l ∙ sym (distance-uv F u v apart x y hx hy))
-        go (inr (inr (hx, hy))) =
-            let (ps, P, l) = bridge x v u y (inr (refl, refl)) (λ e. apart (sym e)) hx (sym hy) in (ps, P, l ∙ sym (distance-vu F u v apart x y hx hy))
+    abbrev G : Trees
+    G = joined F u v
+
+    -- A way in the joined tree: within one tree, or over the pair from a's end to b's.
+    way-over : (a b : ℕ) → Crosses (u, v) a b → ¬ Mates F a b → Bridge F G a b → (x y : ℕ) → Reached F a b x y
+        → (ps : List (ℕ × ℕ)) × (Path ((u, v) ∷ F .added) x y ps) × (length ps ≡ G .distance x y)
+    way-over a b c far B x y (inl h) =
+        let (ps, P, l) = T .way x y h in
+        (ps, record { leads = P .leads; over = λ p k. inr (P .over p k); once = P .once }, l ∙ sym (B .same x y h))
+    way-over a b c far B x y (inr (hx, hy)) =
+        let (ps, P, l) = bridge x a b y c far (sym hx) hy in (ps, P, l ∙ sym (B .over x y hx hy))
+
+    joined-way : (x y : ℕ) → Mates G x y → (ps : List (ℕ × ℕ)) × (Path ((u, v) ∷ F .added) x y ps) × (length ps ≡ G .distance x y)
+    joined-way x y m =
+        let B = joined-bridge F u v apart in
+        elim (B .faces x) [
+          | inl s ↦ way-over u v (inl (refl, refl)) apart B x y (s y m)
+          | inr s ↦ way-over v u (inr (refl, refl)) (λ e. apart (sym e)) (turned B) x y (s y m)
+        ]
 
     -- A path that takes the pair once.
     across : (x y : ℕ) (p q : List (ℕ × ℕ)) → Path ((u, v) ∷ F .added) x y (p ++ ((u, v) ∷ q)) → ¬ Among (u, v) p
-        → Mates (joined F u v) x y × (length (p ++ ((u, v) ∷ q)) ≡ joined F u v .distance x y)
+        → Mates G x y × (length (p ++ ((u, v) ∷ q)) ≡ G .distance x y)
     across x y p q P first = go (C .over)
       where
         C : Cut p q (u, v) x y
@@ -133,27 +139,28 @@ module _ (F : Trees) (T : TrueDistances F) where
         long : length (p ++ ((u, v) ∷ q)) ≡ F .distance x (C .from) + 1 + F .distance (C .to) y
         long = length-append p ((u, v) ∷ q) ∙ omega (arith, begin .1, end .1)
 
-        go : Crosses (u, v) (C .from) (C .to) → Mates (joined F u v) x y × (length (p ++ ((u, v) ∷ q)) ≡ joined F u v .distance x y)
-        go (inl (a, b)) =
-            let hx : Mates F x u = begin .0 ∙ ap (F .tree) a in
-            let hy : Mates F y v = sym (end .0) ∙ ap (F .tree) b in
-            (mates-met F u v x y hx hy, long ∙ rw (a, b) (sym (distance-uv F u v apart x y hx hy)))
-        go (inr (a, b)) =
-            let hx : Mates F x v = begin .0 ∙ ap (F .tree) a in
-            let hy : Mates F y u = sym (end .0) ∙ ap (F .tree) b in
-            (sym (mates-met F u v y x hy hx), long ∙ rw (a, b) (sym (distance-vu F u v apart x y hx hy)))
+        over-pair : (a b : ℕ) → Bridge F G a b → C .from ≡ a → C .to ≡ b → Mates G x y × (length (p ++ ((u, v) ∷ q)) ≡ G .distance x y)
+        over-pair a b B ea eb =
+            let hx : Mates F a x = sym (begin .0 ∙ ap (F .tree) ea) in
+            let hy : Mates F b y = sym (ap (F .tree) eb) ∙ end .0 in
+            (B .meet x y hx hy, long ∙ rw (ea, eb) (sym (B .over x y hx hy)))
+
+        go : Crosses (u, v) (C .from) (C .to) → Mates G x y × (length (p ++ ((u, v) ∷ q)) ≡ G .distance x y)
+        go (inl (a, b)) = over-pair u v (joined-bridge F u v apart) a b
+        go (inr (a, b)) = over-pair v u (turned (joined-bridge F u v apart)) a b
 
     -- Every path in the joined tree.
     joined-all : (x y : ℕ) (ps : List (ℕ × ℕ)) → Path ((u, v) ∷ F .added) x y ps
-        → Mates (joined F u v) x y × (length ps ≡ joined F u v .distance x y)
+        → Mates G x y × (length ps ≡ G .distance x y)
     joined-all x y ps P = go (find-pair (u, v) ps)
       where
-        go : (¬ Among (u, v) ps) ⊎ At (u, v) ps → Mates (joined F u v) x y × (length ps ≡ joined F u v .distance x y)
+        go : (¬ Among (u, v) ps) ⊎ At (u, v) ps → Mates G x y × (length ps ≡ G .distance x y)
         go (inl n) =
             let (m, l) = T .all x y ps (record { leads = P .leads; over = over-others (u, v) ps (F .added) (P .over) n; once = P .once }) in
-            (mates-kept F u v x y m, l ∙ sym (distance-same F u v x y m))
+            let B = joined-bridge F u v apart in
+            (B .keep x y m, l ∙ sym (B .same x y m))
         go (inr A) =
-            subst (λ (qs : List (ℕ × ℕ)). Mates (joined F u v) x y × (length qs ≡ joined F u v .distance x y)) (sym (A .here))
+            subst (λ (qs : List (ℕ × ℕ)). Mates G x y × (length qs ≡ G .distance x y)) (sym (A .here))
             (across x y (A .before) (A .after) (subst (λ (qs : List (ℕ × ℕ)). Path ((u, v) ∷ F .added) x y qs) (A .here) P) (A .first))
 
     -- Joining two trees by a pair keeps distances true.

@@ -1,10 +1,8 @@
 -- For each operation: the number answered is that of the first of the paper's sentences that holds, 0 where none does.
 use mathlib.Core.Path.{_≡_, refl, sym, _∙_}
-use mathlib.Core.Bool.{_||_}
 use mathlib.Core.Logic.{_↔_, inr}
-use mathlib.Core.List.{List, [], _∷_}
-use Prim.Native.Nat.{ℕ, zero, suc, _+_, _*_, _/_, _<_}
-use native.Mathlib.Decide.{decLt}
+use mathlib.Core.List.{List}
+use Prim.Native.Nat.{ℕ, zero, suc, _+_, _*_, _/_}
 use lib.ListN.{length}
 use Rattle.paper.specs.Below.{any, differ}
 use Rattle.paper.specs.Refusals.{Ground, first}
@@ -16,9 +14,8 @@ use Rattle.paper.specs.Results.{tableView, imageOf, tableOf}
 use Rattle.paper.specs.Forest.{defaults}
 use Rattle.paper.specs.Scan.{Run, scanOf}
 use Rattle.paper.specs.Operations.{judgeTable, judgeImage, building, scanning, listed, compacted, compactGrounds, compact, writeGrounds, write, expandGrounds, expand, scanGrounds, scan}
-use Rattle.paper.specs.Sentences.{Sentence, FirstOf, Some, DefaultWrong, Returns, tableSentences, imageSentences, compactSentences, writeSentences, expandSentences, scanSentences}
+use Rattle.paper.specs.Sentences.{Sentence, FirstOf, DefaultWrong, Returns, tableSentences, imageSentences, compactSentences, writeSentences, expandSentences, scanSentences}
 use Rattle.paper.proofs.Tests.{holds-less, holds-not-below, holds-differ, holds-or, holds-some}
-use Rattle.paper.proofs.Chain.{Inside}
 use Rattle.paper.proofs.Returns.{holds-returns}
 use Rattle.paper.proofs.Sentences.{Says, exact, says-append}
 use Rattle.paper.proofs.TableSays.{table-says}

@@ -13,12 +13,11 @@ pub mod ImageSays
 pub mod Exact
 pub mod Refused
 pub mod Determined
-pub mod Joined
+pub mod Join
+pub mod Bridge
 pub mod Paths
 pub mod Distances
-pub mod Order
-pub mod Greedy
-pub mod Farthest
+pub mod Levels
 pub mod Words
 pub mod Cases
 pub mod Twelve

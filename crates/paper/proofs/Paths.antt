@@ -1,5 +1,5 @@
 -- Laws of paths as lists of pairs: one after another, cut at a pair, and no pair twice.
-use mathlib.Core.Path.{_≡_, refl, sym, ap, _∙_, subst}
+use mathlib.Core.Path.{_≡_, refl, sym, ap, subst}
 use mathlib.Core.Logic.{_⊎_, inl, inr}
 use mathlib.Core.List.{List, [], _∷_, _++_}
 use Prim.Native.Nat.{ℕ}
@@ -25,11 +25,13 @@ among-append p (q ∷ a) b (inr h) = go (among-append p a b h)
     go (inl x) = inl (inr x)
     go (inr x) = inr x
 
+-- A pair of the first list is one of both.
 pub among-left : (p : ℕ × ℕ) (a b : List (ℕ × ℕ)) → Among p a → Among p (a ++ b)
 among-left p [] b h = absurd h
 among-left p (q ∷ a) b (inl e) = inl e
 among-left p (q ∷ a) b (inr h) = inr (among-left p a b h)
 
+-- A pair of the second list is one of both.
 pub among-right : (p : ℕ × ℕ) (a b : List (ℕ × ℕ)) → Among p b → Among p (a ++ b)
 among-right p [] b h = h
 among-right p (q ∷ a) b h = inr (among-right p a b h)
@@ -47,6 +49,7 @@ pub record Cut (a b : List (ℕ × ℕ)) (r : ℕ × ℕ) (x y : ℕ) : Type 0 w
   pub over : Crosses r from to
   pub then : Leads b to y
 
+-- A path through a pair is cut there.
 pub leads-cut : (a b : List (ℕ × ℕ)) (r : ℕ × ℕ) (x y : ℕ) → Leads (a ++ (r ∷ b)) x y → Cut a b r x y
 leads-cut [] b r x y (z, c, l) = record { from = x; to = z; first = refl; over = c; then = l }
 leads-cut (p ∷ a) b r x y (z, c, l) =
@@ -60,6 +63,7 @@ pub record At (r : ℕ × ℕ) (ps : List (ℕ × ℕ)) : Type 0 where
   pub here : ps ≡ before ++ (r ∷ after)
   pub first : ¬ Among r before
 
+-- Which of the two it is.
 pub find-pair : (r : ℕ × ℕ) (ps : List (ℕ × ℕ)) → (¬ Among r ps) ⊎ At r ps
 find-pair r [] = inl (λ h. h)
 find-pair r (p ∷ ps) = go (same-pair r p) (find-pair r ps)
@@ -89,10 +93,12 @@ once-append (p ∷ a) b (m, o) k n = (go, once-append a b o k (λ q h. n q (inr 
         at (inl x) = m x
         at (inr x) = n p (inl refl) x
 
+-- So it is in the first part.
 pub once-left : (a b : List (ℕ × ℕ)) → Once (a ++ b) → Once a
 once-left [] b o = tt
 once-left (p ∷ a) b (m, o) = (λ h. m (among-left p a b h), once-left a b o)
 
+-- So it is in the last part.
 pub once-right : (a b : List (ℕ × ℕ)) → Once (a ++ b) → Once b
 once-right [] b o = o
 once-right (p ∷ a) b (m, o) = once-right a b o

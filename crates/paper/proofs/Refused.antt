@@ -6,7 +6,7 @@ use lib.ListN.{length}
 use Rattle.paper.specs.Refusals.{first}
 use Rattle.paper.specs.Results.{imageOf, tableOf}
 use Rattle.paper.specs.Scan.{Run, scanOf}
-use Rattle.paper.specs.Operations.{Built, Scanned, building, scanning, filled, listed, compacted, compactGrounds, compact, writeGrounds, write, expandGrounds, expand, scanGrounds, scan}
+use Rattle.paper.specs.Operations.{Built, building, scanning, filled, listed, compacted, compactGrounds, compact, writeGrounds, write, expandGrounds, expand, scanGrounds, scan}
 use Rattle.paper.specs.Promises.{IsBuilt}
 
 -- A refusal answers its number and 0, and leaves the room.

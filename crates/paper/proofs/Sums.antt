@@ -1,7 +1,6 @@
 -- Sums over the numbers below n, and what follows: swap, pick, at most one, pigeonhole.
 use mathlib.Core.Path.{_≡_, refl, sym, ap, ap₂, _∙_}
 use mathlib.Core.Bool.{Bool, true, false, not}
-use mathlib.Core.Logic.{_⊎_, inl, inr}
 use Prim.Native.Nat.{ℕ, zero, suc, _+_, _*_, _≤_, _<_, zero-le}
 use native.Mathlib.Nat.{not-suc-le-zero}
 use native.Mathlib.Decide.{ℕ-discrete, decLe}
@@ -11,28 +10,32 @@ use borrow.Author.Tests.{eq-eqb, ne-eqb, eqb-true}
 use Rattle.paper.specs.Below.{sum, bit, howMany, any}
 use Rattle.paper.proofs.Below.{any-some, any-at}
 
--- A sum depends on its terms only, and grows with them.
+-- A sum depends on its terms only.
 pub sum-same : (n : ℕ) (f g : ℕ → ℕ) → ((i : ℕ) → i < n → f i ≡ g i) → sum n f ≡ sum n g
 sum-same zero f g e = refl
 sum-same (suc n) f g e = ap₂ _+_ (sum-same n f g (λ i l. e i (omega arith))) (e n (omega arith))
 
+-- It grows with them.
 pub sum-le : (n : ℕ) (f g : ℕ → ℕ) → ((i : ℕ) → i < n → f i ≤ g i) → sum n f ≤ sum n g
 sum-le zero f g e = zero-le
 sum-le (suc n) f g e = omega (arith, sum-le n f g (λ i l. e i (omega arith)), e n (omega arith))
 
--- The sum of sums, of multiples and of one number.
+-- The sum of sums.
 pub sum-add : (n : ℕ) (f g : ℕ → ℕ) → sum n (λ i. f i + g i) ≡ sum n f + sum n g
 sum-add zero f g = refl
 sum-add (suc n) f g = omega (arith, sum-add n f g)
 
+-- The sum of zeros.
 pub sum-zero : (n : ℕ) (f : ℕ → ℕ) → ((i : ℕ) → i < n → f i ≡ 0) → sum n f ≡ 0
 sum-zero zero f e = refl
 sum-zero (suc n) f e = omega (arith, sum-zero n f (λ i l. e i (omega arith)), e n (omega arith))
 
+-- The sum of one number.
 pub sum-constant : (n k : ℕ) → sum n (λ i. k) ≡ n * k
 sum-constant zero k = omega arith
 sum-constant (suc n) k = omega (arith, sum-constant n k)
 
+-- A sum of numbers up to k.
 pub sum-bound : (n k : ℕ) (f : ℕ → ℕ) → ((i : ℕ) → i < n → f i ≤ k) → sum n f ≤ n * k
 sum-bound n k f h = omega (arith, sum-le n f (λ i. k) h, sum-constant n k)
 
@@ -50,6 +53,7 @@ sum-before (suc n) i f h = go (ℕ-discrete i n) (sum-before n i f)
     go (yes e) ih = rw e (omega arith)
     go (no e) ih = omega (arith, ih (omega arith))
 
+-- So is each term.
 pub term-le : (n i : ℕ) (f : ℕ → ℕ) → i < n → f i ≤ sum n f
 term-le n i f h = omega (arith, sum-before n i f h)
 
@@ -81,15 +85,30 @@ count-both (suc n) p = omega (arith, count-both n p, one (p n))
     one true = refl
     one false = refl
 
+-- A count depends on what passes only.
 pub count-same : (n : ℕ) (p q : ℕ → Bool) → ((i : ℕ) → i < n → p i ≡ q i) → howMany n p ≡ howMany n q
 count-same n p q h = sum-same n (λ i. bit (p i)) (λ i. bit (q i)) (λ i hi. ap bit (h i hi))
 
+-- At most all are counted.
 pub count-le : (n : ℕ) (p : ℕ → Bool) → howMany n p ≤ n
 count-le n p = omega (arith, count-both n p)
 
+-- All are, where all pass.
 pub count-all : (n : ℕ) (p : ℕ → Bool) → ((i : ℕ) → i < n → p i ≡ true) → howMany n p ≡ n
 count-all zero p h = refl
 count-all (suc n) p h = omega (arith, count-all n p (λ i hi. h i (omega arith)), ap bit (h n (omega arith)))
+
+-- None is, where none passes.
+pub count-none : (n : ℕ) → howMany n (λ i. false) ≡ 0
+count-none n = sum-zero n (λ i. 0) (λ i l. refl)
+
+-- One that passes is counted.
+pub count-found : (n i : ℕ) (p : ℕ → Bool) → i < n → p i ≡ true → 1 ≤ howMany n p
+count-found n i p h e = omega (arith, term-le n i (λ j. bit (p j)) h, ap bit e)
+
+-- Two tests that at each number pass no more often than a third pass no more often in all.
+pub count-two : (n : ℕ) (p q r : ℕ → Bool) → ((i : ℕ) → i < n → bit (p i) + bit (q i) ≤ bit (r i)) → howMany n p + howMany n q ≤ howMany n r
+count-two n p q r h = omega (arith, sum-add n (λ i. bit (p i)) (λ i. bit (q i)), sum-le n (λ i. bit (p i) + bit (q i)) (λ i. bit (r i)) h)
 
 -- Where all are counted, each passes.
 pub all-counted : (n i : ℕ) (p : ℕ → Bool) → howMany n p ≡ n → i < n → p i ≡ true

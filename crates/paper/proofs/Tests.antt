@@ -1,6 +1,6 @@
 -- Tests and the sentences that they decide.
 use mathlib.Core.Path.{_≡_, refl, sym, ap, _∙_}
-use mathlib.Core.Bool.{Bool, true, false, not, _&&_, _||_, or-true, true≢false}
+use mathlib.Core.Bool.{Bool, true, false, not, _&&_, _||_, true≢false}
 use mathlib.Core.Logic.{_⊎_, inl, inr, ⊎-elim, _↔_}
 use mathlib.Core.Option.{Option, none, some}
 use Prim.Native.Nat.{ℕ, _≤_, _<_}
@@ -58,11 +58,12 @@ holds-some n p P h = (λ e. let (i, l, q) = any-some n p e in (i, l, h i l .0 q)
 pub holds-out-of : (a b x : ℕ) → Holds (outside a b x) (OutOf a b x)
 holds-out-of a b x = holds-or (ltb x a) (ltb b x) (holds-less x a) (holds-less b x)
 
--- Where the sentence does not hold the test fails, and the other way.
+-- Where the sentence does not hold the test fails.
 pub fails : {A : Type 0} (b : Bool) → Holds b A → ¬ A → b ≡ false
 fails true h n = absurd (n (h .0 refl))
 fails false h n = refl
 
+-- Where the test fails the sentence does not hold.
 pub failed : {A : Type 0} (b : Bool) → Holds b A → b ≡ false → ¬ A
 failed b h e a = true≢false (sym (h .1 a) ∙ e)
 
@@ -71,6 +72,7 @@ pub or-both : (a b : Bool) → a || b ≡ false → (a ≡ false) × (b ≡ fals
 or-both false b e = (refl, e)
 or-both true b e = absurd (true≢false e)
 
+-- And the other way.
 pub or-neither : (a b : Bool) → a ≡ false → b ≡ false → a || b ≡ false
 or-neither a b e e′ = rw (e, e′)
 
@@ -78,6 +80,7 @@ or-neither a b e e′ = rw (e, e′)
 pub not-differ : (a b : ℕ) → differ a b ≡ false → a ≡ b
 not-differ a b e = eqb-true a b (not-false (eqb a b) e)
 
+-- And the other way.
 pub same-differ : (a b : ℕ) → a ≡ b → differ a b ≡ false
 same-differ a b e = ap not (eq-eqb a b e)
 
@@ -85,6 +88,7 @@ same-differ a b e = ap not (eq-eqb a b e)
 pub not-outside : (a b x : ℕ) → outside a b x ≡ false → (a ≤ x) × (x ≤ b)
 not-outside a b x e = let (p, q) = or-both (ltb x a) (ltb b x) e in (ltb-false x a p, ltb-false b x q)
 
+-- And the other way.
 pub within-outside : (a b x : ℕ) → a ≤ x → x ≤ b → outside a b x ≡ false
 within-outside a b x p q = or-neither (ltb x a) (ltb b x) (le-ltb x a p) (le-ltb b x q)
 

@@ -1,9 +1,9 @@
 -- The definitions compute: a table of twelve states is compacted by computation, and the numbers are those of an independent implementation of the paper.
 use mathlib.Core.Path.{_≡_, refl}
-use mathlib.Core.Bool.{Bool, true, _&&_}
+use mathlib.Core.Bool.{true, _&&_}
 use mathlib.Core.List.{List, [], _∷_, _++_}
 use Prim.Native.Nat.{ℕ}
-use lib.ListN.{length, replicate, take}
+use lib.ListN.{replicate, take}
 use Rattle.paper.specs.Words.{number16, number32, bytes16, bytes32, _⊕_, checkWord}
 use Rattle.paper.specs.Table.{labels, next, tableGrounds}
 use Rattle.paper.specs.View.{stored, depthOf, worstOf, viewGrounds}

@@ -1,7 +1,7 @@
 -- Each of the grounds 8 to 13 is the paper's sentence, both ways, where no ground before it applies.
 use mathlib.Core.Path.{_≡_, refl, sym, ap, _∙_}
-use mathlib.Core.Bool.{Bool, true, false, not, _&&_, true≢false}
-use mathlib.Core.Logic.{_⊎_, inl, inr}
+use mathlib.Core.Bool.{Bool, true, not, true≢false}
+use mathlib.Core.Logic.{inl}
 use mathlib.Core.Option.{Option, none, some}
 use Prim.Native.Nat.{ℕ, zero, suc, _<_}
 use native.Mathlib.Decide.{decLt}
@@ -9,8 +9,8 @@ use native.Mathlib.Omega.{arith}
 use lib.Dec.{ltb, leb}
 use borrow.Author.Tests.{eqb-true, eq-eqb}
 use Rattle.paper.specs.Below.{any, sum, differ, given}
-use Rattle.paper.specs.View.{View, Found, chain, find, endless, gives, defaultBad, defaultGives, recordBad, classFalls, entryClassBad, sameAsDefault, anyEntry, depthOf, worstOf, viewGrounds}
-use Rattle.paper.specs.Sentences.{Some, DefaultWrong, RecordWrong, ClassWrong, SomeEntry, Returns, Serves, EntryNeedless, viewSentences}
+use Rattle.paper.specs.View.{View, Found, chain, find, endless, gives, defaultBad, defaultGives, recordBad, classFalls, entryClassBad, sameAsDefault, depthOf, worstOf, viewGrounds}
+use Rattle.paper.specs.Sentences.{Some, DefaultWrong, RecordWrong, ClassWrong, Returns, Serves, EntryNeedless, viewSentences}
 use Rattle.paper.proofs.Tests.{Holds, holds-less, holds-not-below, holds-differ, holds-or, holds-and, holds-some, none≢some}
 use Rattle.paper.proofs.Chain.{Inside, some-same, chain-short}
 use Rattle.paper.proofs.Returns.{endless-returns, holds-returns}

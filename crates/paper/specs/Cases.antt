@@ -1,21 +1,16 @@
 -- The cases that the paper marks with a star: one table, one statement.
-use mathlib.Core.Path.{_≡_, refl, ap}
-use mathlib.Core.Bool.{Bool, true, false, cond, _&&_}
+use mathlib.Core.Bool.{Bool, true, false, _&&_}
 use mathlib.Core.List.{List, [], _∷_, _++_, map}
-use Prim.Native.Nat.{ℕ, _+_, _/_, zero-le}
+use Prim.Native.Nat.{ℕ}
 use lib.Dec.{eqb}
-use borrow.Author.Tests.{le-ltb}
 use lib.ListN.{length, replicate, take}
 use Rattle.paper.specs.Below.{list}
-use Rattle.paper.specs.Words.{number16, number32, bytes16, bytes32, _⊕_, checkWord}
-use Rattle.paper.specs.Table.{labels, next, tableGrounds}
-use Rattle.paper.specs.View.{stored, depthOf, worstOf, viewGrounds}
+use Rattle.paper.specs.Words.{bytes16, bytes32, checkWord}
 use Rattle.paper.specs.Image as image
-use Rattle.paper.specs.Image.{entries, depth, worst, imageView, imageGrounds}
-use Rattle.paper.specs.Results.{defaultNumber, labelBytes, recordBytes, entryBytes, front, trailer, parts, imageOfView, entriesOf, tableView, imageOf, tableOf}
-use Rattle.paper.specs.Forest.{weight, singles, endNear, joined, d, longest, joinedLongest, addedOrDropped, pairs, isRoot, root, pointsTo, forest, defaults}
-use Rattle.paper.specs.Scan.{scanOf}
-use Rattle.paper.specs.Operations.{judgeTable, judgeImage, Built, building, compacted, compactGrounds, compact, listed, writeGrounds, write, expandGrounds, expand, Scanned, scanGrounds, scan}
+use Rattle.paper.specs.Image.{entries, depth, worst}
+use Rattle.paper.specs.Results.{defaultNumber, imageOf}
+use Rattle.paper.specs.Forest.{weight}
+use Rattle.paper.specs.Operations.{judgeTable, Built, compacted, compact, listed, write, Scanned, scan}
 
 -- Numbers of 16 bits, one after the other.
 abbrev pub all16 : List ℕ → List ℕ
