@@ -57,6 +57,14 @@ sum-before (suc n) i f h = go (ℕ-discrete i n) (sum-before n i f)
 pub term-le : (n i : ℕ) (f : ℕ → ℕ) → i < n → f i ≤ sum n f
 term-le n i f h = omega (arith, sum-before n i f h)
 
+-- A sum of fewer terms is not larger.
+pub sum-up : (i n : ℕ) (f : ℕ → ℕ) → i ≤ n → sum i f ≤ sum n f
+sum-up i n f h = go (ℕ-discrete i n)
+  where
+    go : Dec (i ≡ n) → sum i f ≤ sum n f
+    go (yes e) = rw e (omega arith)
+    go (no e) = omega (arith, sum-before n i f (omega arith))
+
 -- The first number of a sum apart.
 pub sum-first : (n : ℕ) (f : ℕ → ℕ) → sum (suc n) f ≡ f 0 + sum n (λ i. f (suc i))
 sum-first zero f = omega arith

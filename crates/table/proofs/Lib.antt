@@ -1,0 +1,6 @@
+pub mod Either
+pub mod Marks
+pub mod Rows
+pub mod Next
+pub mod Decided
+pub mod Judged

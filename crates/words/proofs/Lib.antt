@@ -1,0 +1,4 @@
+pub mod Placed
+pub mod Written
+pub mod Sum
+pub mod Lent

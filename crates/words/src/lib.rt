@@ -1,0 +1,93 @@
+// Little-endian numbers in lent bytes, read and written, bytes copied, and the check word.
+ghost use mathlib.Core.Path.{_≡_};
+ghost use Prim.Native.Nat.{_+_, _%_, _≤_, _<_, _^_};
+ghost use lib.ListN.{length, take, drop};
+ghost use Rattle.paper.specs.Words.{number16, number32, bytes16, bytes32, words, checkWord};
+ghost use Rattle.paper.proofs.Words.{total, rep};
+ghost use Rattle.words.specs.Placed.{placed};
+
+// A byte as a number of 16 bits.
+pub fn wide(x: u8) -> u16
+    ensures { λ r. ⌜ (r ≡ x) × (r < 256) ⌝ }
+{
+    x as u16
+}
+
+// The number of 16 bits at `at`.
+pub fn get16(b: &[u8], at: usize) -> u16
+    requires { ⌜ at + 1 < length (now b) ⌝ }
+    ensures { λ r. ⌜ r ≡ number16 (now (b .entry)) at ⌝ }
+{
+    wide(b[at]) + 256 * wide(b[at + 1])
+}
+
+// The number of 32 bits at `at`.
+pub fn get32(b: &[u8], at: usize) -> u32
+    requires { ⌜ at + 3 < length (now b) ⌝ }
+    ensures { λ r. ⌜ r ≡ number32 (now (b .entry)) at ⌝ }
+{
+    get16(b, at) as u32 + 65536 * get16(b, at + 2) as u32
+}
+
+// Writes x in 16 bits at `at`.
+pub fn put16(room: &mut [u8], at: usize, x: u16)
+    requires { ⌜ at + 1 < length (now room) ⌝ }
+    ensures { λ _. ⌜ now (room .exit) ≡ placed (now (room .entry)) at (bytes16 x) ⌝ }
+{
+    room[at] = (x % 256) as u8;
+    room[at + 1] = (x / 256) as u8;
+}
+
+// Writes x in 32 bits at `at`.
+pub fn put32(room: &mut [u8], at: usize, x: u32)
+    requires { ⌜ at + 3 < length (now room) ⌝ }
+    ensures { λ _. ⌜ now (room .exit) ≡ placed (now (room .entry)) at (bytes32 x) ⌝ }
+{
+    put16(room, at, (x % 65536) as u16);
+    put16(room, at + 2, (x / 65536) as u16);
+}
+
+// Copies `count` bytes, from `start` on, to `at`.
+pub fn copy(from: &[u8], start: usize, count: usize, room: &mut [u8], at: usize)
+    requires { ⌜ (start + count ≤ length (now from)) × (at + count ≤ length (now room)) ⌝ }
+    ensures { λ _. ⌜ now (room .exit) ≡ placed (now (room .entry)) at (take count (drop start (now (from .entry)))) ⌝ }
+{
+    let mut i = 0;
+    while i < count {
+        room[at + i] = from[start + i];
+        i += 1;
+    }
+}
+
+// The plain sum of all words.
+fn add_up(b: &[u8]) -> u64
+    requires { ⌜ (length (now b) % 2 ≡ 0) × (length (now b) < 2 ^ 32) ⌝ }
+    ensures { λ r. ⌜ r ≡ total (words (now (b .entry))) ⌝ }
+{
+    let mut sum: u64 = 0;
+    let mut i = 0;
+    while i < b.len() {
+        sum += get16(b, i) as u64;
+        i += 2;
+    }
+    sum
+}
+
+// Brings round what is above 16 bits until the sum fits in them.
+fn fold(sum: u64) -> u16
+    ensures { λ r. ⌜ r ≡ rep sum ⌝ }
+{
+    let mut left = sum;
+    while 65535 < left {
+        left = left % 65536 + left / 65536;
+    }
+    left as u16
+}
+
+// The check word of all words.
+pub fn check_word(b: &[u8]) -> u16
+    requires { ⌜ (length (now b) % 2 ≡ 0) × (length (now b) < 2 ^ 32) ⌝ }
+    ensures { λ r. ⌜ r ≡ checkWord (words (now (b .entry))) ⌝ }
+{
+    65535 - fold(add_up(b))
+}

@@ -1,0 +1,87 @@
+#define _DEFAULT_SOURCE
+#include "support.h"
+
+#include <stdio.h>
+#include <stdlib.h>
+#include <string.h>
+#include <sys/mman.h>
+#include <unistd.h>
+
+static uint64_t source;
+
+void seed(uint64_t from) { source = from * 2 + 1; }
+
+uint32_t below(uint32_t bound) {
+    source ^= source << 13;
+    source ^= source >> 7;
+    source ^= source << 17;
+    return (uint32_t)((source >> 16) % bound);
+}
+
+uint32_t number16(const uint8_t *b, size_t at) { return b[at] + 256u * b[at + 1]; }
+uint32_t number32(const uint8_t *b, size_t at) { return number16(b, at) + 65536u * number16(b, at + 2); }
+
+void set16(uint8_t *b, size_t at, uint32_t x) {
+    b[at] = x & 255;
+    b[at + 1] = x >> 8 & 255;
+}
+
+void set32(uint8_t *b, size_t at, uint32_t x) {
+    set16(b, at, x & 65535);
+    set16(b, at + 2, x >> 16);
+}
+
+void mend_check_word(uint8_t *image, size_t length) {
+    uint64_t sum = 0;
+    for (size_t i = 0; i + 2 < length; i += 2) sum += number16(image, i);
+    while (sum > 65535) sum = (sum & 65535) + (sum >> 16);
+    set16(image, length - 2, 65535 - (uint32_t)sum);
+}
+
+size_t make_table(uint8_t *table, uint32_t n, uint32_t k, uint32_t alike) {
+    uint16_t usual[256];
+    set16(table, 0, n);
+    set16(table, 2, k);
+    set16(table, 4, below(n));
+    for (uint32_t x = 0; x < 256; x++) table[6 + x] = (uint8_t)below(k);
+    /* Each class is some byte's: the classes stand at k bytes in a row, from a byte at random. */
+    uint32_t first = below(256);
+    for (uint32_t c = 0; c < k; c++) table[6 + (first + c) % 256] = (uint8_t)c;
+    for (uint32_t s = 0; s < n; s++) set16(table, 262 + 2 * s, below(3) ? 0 : 1 + below(65535));
+    for (uint32_t c = 0; c < k; c++) usual[c] = (uint16_t)below(n);
+    size_t at = 262 + 2 * (size_t)n;
+    for (uint32_t s = 0; s < n; s++)
+        for (uint32_t c = 0; c < k; c++, at += 2) set16(table, at, below(256) < alike ? usual[c] : below(n));
+    return at;
+}
+
+void make_defaults(uint8_t *defaults, uint32_t n, uint32_t often) {
+    /* States in an order at random; each may fall to one before it. */
+    uint32_t order[512];
+    for (uint32_t s = 0; s < n; s++) order[s] = s;
+    for (uint32_t s = n; s > 1; s--) {
+        uint32_t other = below(s), kept = order[s - 1];
+        order[s - 1] = order[other];
+        order[other] = kept;
+    }
+    for (uint32_t i = 0; i < n; i++) set16(defaults, 2 * order[i], i > 0 && below(256) < often ? order[below(8) ? below(i) : i - 1] : 65535);
+}
+
+guarded guard(size_t most) {
+    size_t page = (size_t)sysconf(_SC_PAGESIZE), size = (most + page - 1) / page * page;
+    uint8_t *pages = mmap(NULL, size + 2 * page, PROT_NONE, MAP_PRIVATE | MAP_ANONYMOUS, -1, 0);
+    if (pages == MAP_FAILED || mprotect(pages + page, size ? size : page, PROT_READ | PROT_WRITE)) {
+        perror("guard");
+        exit(3);
+    }
+    guarded g = {pages + page, size};
+    return g;
+}
+
+uint8_t *at_end(const guarded *g, size_t length) { return g->pages + g->size - length; }
+uint8_t *at_start(const guarded *g) { return g->pages; }
+
+void fail(const char *sentence, uint64_t number) {
+    printf("failed: %s (case %llu)\n", sentence, (unsigned long long)number);
+    exit(1);
+}

@@ -1,0 +1,44 @@
+/* What the tests share: a seeded source of numbers, tables and lists of defaults at random, and buffers that end at a guard page. */
+#ifndef SUPPORT_H
+#define SUPPORT_H
+
+#include <stddef.h>
+#include <stdint.h>
+
+enum {
+    LONGEST_TABLE = 262 + 2 * 512 + 2 * 512 * 256,
+    LONGEST_IMAGE = 280 + 6 * 512 + 4 * 512 * 256,
+};
+
+/* A number below `below`, from a source that gives the same numbers for the same seed. */
+void seed(uint64_t from);
+uint32_t below(uint32_t below);
+
+uint32_t number16(const uint8_t *b, size_t at);
+uint32_t number32(const uint8_t *b, size_t at);
+void set16(uint8_t *b, size_t at, uint32_t x);
+void set32(uint8_t *b, size_t at, uint32_t x);
+
+/* Sets the check word at the end of an image anew, so that damage before it is seen by the grounds behind 5. */
+void mend_check_word(uint8_t *image, size_t length);
+
+/* A table of n states and k classes whose rows are alike in `alike` of 256 cases; answers its length. */
+size_t make_table(uint8_t *table, uint32_t n, uint32_t k, uint32_t alike);
+
+/* A list of defaults without a circle: a state has one in `often` of 256 cases. */
+void make_defaults(uint8_t *defaults, uint32_t n, uint32_t often);
+
+/* Bytes between two pages that may not be touched. `at_end` of them stands right before the second page, `at_start` right behind the first. */
+typedef struct {
+    uint8_t *pages;
+    size_t size;
+} guarded;
+
+guarded guard(size_t most);
+uint8_t *at_end(const guarded *g, size_t length);
+uint8_t *at_start(const guarded *g);
+
+/* Ends the test with the sentence, the case's number and status 1. */
+void fail(const char *sentence, uint64_t number);
+
+#endif
