@@ -1,17 +1,17 @@
 -- A view of which none of the grounds 8 to 13 holds, as plain facts, and back.
 use mathlib.Core.Path.{_≡_, refl, ap}
-use mathlib.Core.Bool.{Bool, false, not, _&&_}
+use mathlib.Core.Bool.{false, not, _&&_}
 use mathlib.Core.Option.{Option, none, some}
 use Prim.Native.Nat.{ℕ, zero, suc, _≤_, _<_}
-use native.Mathlib.Omega.{arith}
 use lib.Dec.{ltb, leb}
-use borrow.Author.Tests.{ltb-false, leb-false, le-ltb, lt-leb}
+use borrow.Author.Tests.{le-ltb, lt-leb}
 use Rattle.paper.specs.Below.{any, sum, differ, given}
 use Rattle.paper.specs.View.{View, chain, depthOf, worstOf, endless, defaultBad, recordBad, entryClassBad, classFalls, sameAsDefault, viewGrounds}
 use Rattle.paper.proofs.Below.{any-at, any-none}
 use Rattle.paper.proofs.Refusals.{Clear}
-use Rattle.paper.proofs.Tests.{or-both, or-neither, not-differ, same-differ, given-some, none≢some}
-use Rattle.paper.proofs.Chain.{Inside, some-same}
+use Rattle.paper.proofs.Tests.{or-both, or-neither, not-differ, same-differ, given-some}
+use Rattle.paper.proofs.Chain.{Inside}
+use Rattle.facts.proofs.EntryFacts.{entered, any-two, any-neither}
 
 -- The grounds 8 to 12 as facts.
 pub record Sound (v : View) : Type 0 where
@@ -30,45 +30,23 @@ pub record Stated (v : View) (classOf : ℕ → ℕ) (m depth worst : ℕ) : Typ
   pub deep : depth ≡ depthOf v
   pub far : worst ≡ worstOf v classOf
 
--- A default that is not wrong is below n.
-pub default-inside : (n d : ℕ) (o : Option ℕ) → defaultBad n o ≡ false → o ≡ some d → d < n
-default-inside n d none e q = absurd (none≢some none d refl q)
-default-inside n d (some x) e q = omega (arith, leb-false n x e, some-same q)
-
-root-full : (k count : ℕ) (o : Option ℕ) → not (given o) && differ count k ≡ false → o ≡ none → count ≡ k
-root-full k count none e q = not-differ count k e
-root-full k count (some d) e q = absurd (none≢some (some d) d q refl)
-
--- No pair of numbers passes.
-pub any-two : (n i j : ℕ) (m : ℕ → ℕ) (p : ℕ → ℕ → Bool) → any n (λ i. any (m i) (p i)) ≡ false → i < n → j < m i → p i j ≡ false
-any-two n i j m p e hi hj = any-at (m i) j (p i) (any-at n i (λ i. any (m i) (p i)) e hi) hj
-
--- And the other way.
-pub any-neither : (n : ℕ) (m : ℕ → ℕ) (p : ℕ → ℕ → Bool) → ((i j : ℕ) → i < n → j < m i → p i j ≡ false) → any n (λ i. any (m i) (p i)) ≡ false
-any-neither n m p h = any-none n (λ i. any (m i) (p i)) (λ i hi. any-none (m i) (p i) (λ j hj. h i j hi hj))
-
 -- What the grounds leave.
 pub view-facts : (v : View) (classOf : ℕ → ℕ) (m depth worst : ℕ) → Clear (viewGrounds v classOf m depth worst) → Sound v × Stated v classOf m depth worst
 unfolding viewGrounds
 view-facts v classOf m depth worst (g₈, (g₉, (g₁₀, (g₁₁, (g₁₂, (g₁₃, _)))))) =
-    let n = v .states in
-    let (records, totals) = or-both (any n (recordBad v)) _ g₈ in
-    let (deeps, fars) = or-both (differ depth (depthOf v)) _ g₁₃ in
-    let at : (s : ℕ) → s < n → (defaultBad n (v .default s) ≡ false) × ((ltb (v .classes) (v .count s) ≡ false) × (not (given (v .default s)) && differ (v .count s) (v .classes) ≡ false))
-    = λ s hs. let (p, q) = or-both (defaultBad n (v .default s)) _ (any-at n s (recordBad v) records hs) in (p, or-both (ltb (v .classes) (v .count s)) _ q) in
-    let entry : (s j : ℕ) → s < n → j < v .count s → (leb (v .classes) (v .entryClass s j) ≡ false) × (classFalls v s j ≡ false)
-    = λ s j hs hj. or-both (leb (v .classes) (v .entryClass s j)) _ (any-two n s j (v .count) (entryClassBad v) g₉ hs hj) in (
+    let E = entered v m g₈ g₉ g₁₀ in
+    let (deeps, fars) = or-both (differ depth (depthOf v)) _ g₁₃ in (
       record {
-        full = λ s hs q. root-full (v .classes) (v .count s) (v .default s) (at s hs .1 .1) q;
-        inside = λ s d hs q. default-inside n d (v .default s) (at s hs .0) q;
-        few = λ s hs. ltb-false (v .classes) (v .count s) (at s hs .1 .0);
-        class-below = λ s j hs hj. leb-false (v .classes) (v .entryClass s j) (entry s j hs hj .0);
-        rises = λ s j hs hj. leb-false (v .entryClass s (suc j)) (v .entryClass s j) (entry s (suc j) hs hj .1);
-        next-below = λ s j hs hj. leb-false n (v .entryNext s j) (any-two n s j (v .count) (λ s j. leb n (v .entryNext s j)) g₁₀ hs hj);
-        ends = λ s hs. given-some (chain v n s) (any-at n s (endless v) g₁₁ hs);
-        needed = λ s j hs hj. any-two n s j (v .count) (sameAsDefault v) g₁₂ hs hj;
+        full = E .full;
+        inside = E .inside;
+        few = E .few;
+        class-below = E .class-below;
+        rises = E .rises;
+        next-below = E .next-below;
+        ends = λ s hs. given-some (chain v (v .states) s) (any-at (v .states) s (endless v) g₁₁ hs);
+        needed = λ s j hs hj. any-two (v .states) s j (v .count) (sameAsDefault v) g₁₂ hs hj;
       },
-      record { total = not-differ _ _ totals; deep = not-differ _ _ deeps; far = not-differ _ _ fars },
+      record { total = E .total; deep = not-differ _ _ deeps; far = not-differ _ _ fars },
     )
 
 module _ (v : View) (A : Sound v) where

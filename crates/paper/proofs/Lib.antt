@@ -2,6 +2,7 @@ pub mod Below
 pub mod Tests
 pub mod Sums
 pub mod Rising
+pub mod Filled
 pub mod Chain
 pub mod Returns
 pub mod Look

@@ -18,7 +18,8 @@ use Rattle.paper.proofs.Sums.{count-all}
 use Rattle.paper.proofs.Rising.{rank-all, count-le-bound}
 use Rattle.paper.proofs.Chain.{Inside}
 use Rattle.facts.proofs.TableFacts.{accepted-table}
-use Rattle.facts.proofs.ViewFacts.{Sound, default-inside}
+use Rattle.facts.proofs.ViewFacts.{Sound}
+use Rattle.facts.proofs.EntryFacts.{default-inside}
 use Rattle.trips.proofs.Stored.{has, entries-row}
 use Rattle.trips.proofs.Picked.{Picked}
 use Rattle.trips.proofs.TableViews.{keeps, entries-picked, table-stores, table-gives}

@@ -1,0 +1,12 @@
+pub mod Defaults
+pub mod Ends
+pub mod Climbs
+pub mod Places
+pub mod Room
+pub mod Marks
+pub mod Behind
+pub mod Endless
+pub mod Done
+pub mod Depth
+pub mod Agrees
+pub mod Sweeps

@@ -1,0 +1,7 @@
+pub mod Every
+pub mod Counting
+pub mod Weighed
+pub mod Falling
+pub mod Single
+pub mod Settled
+pub mod Chosen

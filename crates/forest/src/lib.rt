@@ -1,0 +1,137 @@
+// The bounded forest of a table, and the defaults that it gives.
+ghost use mathlib.Core.Path.{_≡_};
+ghost use Prim.Native.Nat.{_*_, _≤_, _<_};
+ghost use lib.ListN.{length};
+ghost use Rattle.paper.specs.Table.{states, classes};
+ghost use Rattle.paper.specs.Forest.{weight};
+ghost use Rattle.facts.proofs.TableFacts.{AcceptedTable};
+ghost use Rattle.table.specs.Counted.{Counted};
+ghost use Rattle.joining.specs.Filled.{Replaced};
+ghost use Rattle.joining.specs.Rooted.{Low};
+ghost use Rattle.forest.specs.Weighed.{Weighed, Own, Single};
+ghost use Rattle.forest.specs.Settled.{staysRoot, rootIn, Settles};
+ghost use Rattle.forest.specs.Chosen.{Chosen};
+use joining::Forest;
+
+// The weight of a pair of states: the number of classes for which their rows have equal next states, less one.
+fn weight_of(t: &[u8], n: usize, k: usize, u: usize, v: usize) -> u8
+    requires { ⌜ Counted (now t) n k × (u < n) × (v < n) ⌝ }
+    ensures { λ r. ⌜ r ≡ weight (now (t .entry)) u v ⌝ }
+{
+    let mut same: u16 = 0;
+    for c in 0..k {
+        if table::next_state(t, n, k, u, c) == table::next_state(t, n, k, v, c) {
+            same += 1;
+        }
+    }
+    if same == 0 {
+        return 0;
+    }
+    (same - 1) as u8
+}
+
+// The weights of all pairs, the first state below the second.
+fn weigh_all(t: &[u8], n: usize, k: usize, weights: &mut [u8; 262144])
+    requires { ⌜ Counted (now t) n k × (length (now weights) ≡ 262144) ⌝ }
+    ensures { λ _. ⌜ Weighed (now (t .entry)) n (now (weights .exit)) (n * 512) ⌝ }
+{
+    for u in 0..n {
+        for v in u + 1..n {
+            weights[u * 512 + v] = weight_of(t, n, k, u, v);
+        }
+    }
+}
+
+// The numbers 0 to 511.
+fn own_numbers() -> [u16; 512]
+    ensures { λ r. ⌜ Own r 512 ⌝ }
+{
+    let mut own = [0u16; 512];
+    for x in 0..512 {
+        own[x] = x as u16;
+    }
+    own
+}
+
+// Single states: distance 0, each its own parent and its own tree.
+fn single_states() -> Forest
+    ensures { λ r. ⌜ Single (r .d) (r .parent) (r .tree) ⌝ }
+{
+    let own = own_numbers();
+    Forest {
+        d: [0u16; 512],
+        parent: own,
+        tree: own,
+    }
+}
+
+// Whether y, if it is of z's tree, goes before z as a root: by smaller d, of two the smaller number.
+fn stays_root(ty: u16, tz: u16, dy: u16, dz: u16, y: usize, z: usize) -> bool
+    ensures { λ r. ⌜ r ≡ staysRoot ty tz dy dz y z ⌝ }
+{
+    if ty != tz {
+        return true;
+    }
+    if dy < dz {
+        return true;
+    }
+    if dz < dy {
+        return false;
+    }
+    y <= z
+}
+
+// Whether y is its tree's root: the state with the smallest d, of two the smaller number.
+fn is_root(d: &[u16; 512], tree: &[u16; 512], n: usize, y: usize) -> bool
+    requires { ⌜ (n ≤ 512) × (y < n) ⌝ }
+    ensures { λ r. ⌜ r ≡ rootIn (now (d .entry)) (now (tree .entry)) n y ⌝ }
+{
+    for z in 0..n {
+        if !stays_root(tree[y], tree[z], d[y], d[z], y, z) {
+            return false;
+        }
+    }
+    true
+}
+
+// The parents with each tree turned to its root.
+fn settle(f: Forest, n: usize) -> [u16; 512]
+    requires { ⌜ (n ≤ 512) × Low (f .parent) ⌝ }
+    ensures { λ r. ⌜ Settles n (f .d) (f .parent) (f .tree) r n ⌝ }
+{
+    let d = f.d;
+    let tree = f.tree;
+    let mut parent = f.parent;
+    for x in 0..n {
+        if is_root(&d, &tree, n, x) {
+            let turned = joining::turned_to(parent, x, d[x]);
+            parent = turned;
+        }
+    }
+    parent
+}
+
+// The parents with 65535 for each state that is its own.
+fn pointers(parent: [u16; 512], n: usize) -> [u16; 512]
+    requires { ⌜ n ≤ 512 ⌝ }
+    ensures { λ r. ⌜ Replaced (λ s. s) 65535 parent r n ⌝ }
+{
+    let mut chosen = parent;
+    for s in 0..n {
+        if chosen[s] == s as u16 {
+            chosen[s] = 65535;
+        }
+    }
+    chosen
+}
+
+// The defaults of an accepted table in the forest with this path bound: for each state its default, or 65535 for none.
+pub fn defaults_of(t: &[u8], n: usize, k: usize, bound: u16) -> [u16; 512]
+    requires { ⌜ AcceptedTable (now t) × (n ≡ states (now t)) × (k ≡ classes (now t)) ⌝ }
+    ensures { λ r. ⌜ Chosen (now (t .entry)) n bound r ⌝ }
+{
+    let mut weights = [0u8; 262144];
+    weigh_all(t, n, k, &mut weights);
+    let f = greedy::take_all(single_states(), &weights, n, bound, (k - 1) as u8);
+    pointers(settle(f, n), n)
+}

@@ -1,0 +1,4 @@
+pub mod Becomes
+pub mod Pair
+pub mod Rows
+pub mod Falls

@@ -1,0 +1,102 @@
+-- Where the entries of each state begin, and how the list of these places is filled.
+use mathlib.Core.Path.{_≡_, _∙_}
+use mathlib.Core.List.{List}
+use Prim.Native.Nat.{ℕ, _+_, _*_, _≤_, _<_}
+use native.Mathlib.Numerals.{add-one}
+use native.Mathlib.Decide.{ℕ-discrete}
+use native.Mathlib.Omega.{arith}
+use lib.ListN.{length, getD, set, length-set}
+use lib.Seq.{getD-set-same, getD-set-other}
+use Rattle.paper.specs.Words.{number16}
+use Rattle.paper.specs.Image.{states, entriesAt, recordsAt, count, entryAt}
+use Rattle.paper.proofs.Sums.{sum-up}
+use Rattle.image.specs.Laid.{Laid, Begins}
+
+-- The first so many places of the list hold what f gives.
+abbrev pub Filled : (ℕ → ℕ) → List ℕ → ℕ → Type 0
+Filled f l i = (q : ℕ) → q < i → getD l q 0 ≡ f q
+
+-- One place more.
+pub fill-more : (f : ℕ → ℕ) (l : List ℕ) (i x : ℕ) → i < length l → x ≡ f i → Filled f l i → Filled f (set l i x) (i + 1)
+fill-more f l i x h e filled q hq = go (ℕ-discrete q i)
+  where
+    go : Dec (q ≡ i) → getD (set l i x) q 0 ≡ f q
+    go (yes w) = rw w (getD-set-same l i x 0 h ∙ e)
+    go (no w) = getD-set-other l i q x 0 w ∙ filled q (omega arith)
+
+module _ (b : List ℕ) (L : Laid b) where
+  -- The records stand behind the labels.
+  pub records-before : recordsAt b ≡ 268 + 2 * states b
+  records-before = omega (arith, L .long)
+
+  -- The entries stand behind the records.
+  pub entries-behind : entriesAt b ≡ recordsAt b + 4 * states b
+  entries-behind = omega (arith, L .long)
+
+  -- The entries of the next state begin behind those of a state.
+  pub next-begin : (s : ℕ) → entryAt b (s + 1) 0 ≡ entryAt b s 0 + 4 * count b s
+  unfolding entryAt
+  next-begin s = rw (add-one s) (omega arith)
+
+  -- They all stand before the trailer.
+  pub begin-in : (s : ℕ) → s ≤ states b → entryAt b s 0 + 12 ≤ length b
+  unfolding entryAt
+  begin-in s h = omega (arith, sum-up s (states b) (count b) h, L .counted, L .long)
+
+-- What holds at the head of the loop: the places so far are filled, and `at` is the next.
+pub record Begun (b : List ℕ) (n at : ℕ) (begins : List ℕ) (s : ℕ) : Type 0 where
+  pub within : s ≤ n
+  pub at-is : at ≡ entryAt b s 0
+  pub at-in : at + 12 ≤ length b
+  pub long : length begins ≡ 513
+  pub filled : Filled (λ q. entryAt b q 0) begins s
+
+-- Records, entries and trailer fit in the image, and all numbers are small.
+pub record Sizes (b : List ℕ) (n records : ℕ) : Type 0 where
+  pub few-states : n ≤ 512
+  pub room : records + 4 * n + 12 ≤ length b
+  pub short : length b ≤ 600000
+
+module _ (b : List ℕ) (L : Laid b) (n records : ℕ) (n-is : n ≡ states b) (records-is : records ≡ recordsAt b) where
+  -- So it is with the image's own counts.
+  pub sizes : Sizes b n records
+  sizes =
+      record {
+        few-states = omega (arith, L .few-states);
+        room = omega (arith, L .long);
+        short = omega (arith, L .long, L .few-states, L .few-entries);
+      }
+
+  -- No place is filled at the start.
+  pub begun-start : (begins : List ℕ) → length begins ≡ 513 → Begun b n (records + 4 * n) begins 0
+  unfolding entryAt
+  begun-start begins l =
+      record {
+        within = omega arith;
+        at-is = omega (arith, entries-behind b L);
+        at-in = omega (arith, sizes .room);
+        long = l;
+        filled = λ q h. absurd (omega arith);
+      }
+
+  module _ (at : ℕ) (begins : List ℕ) (s : ℕ) (g : Begun b n at begins s) where
+    -- One place more is filled in each turn.
+    pub begun-more : s < n → (c : ℕ) → c ≡ number16 b (records + 4 * s + 2) → Begun b n (at + 4 * c) (set begins s at) (s + 1)
+    unfolding count
+    begun-more h c e =
+        let e′ : c ≡ number16 b (recordsAt b + 4 * s + 2) = e ∙ rw records-is in
+        let next : at + 4 * c ≡ entryAt b (s + 1) 0 = omega (arith, g .at-is, next-begin b L s, e′) in
+        record {
+          within = omega arith;
+          at-is = next;
+          at-in = omega (arith, next, begin-in b L (s + 1) (omega arith));
+          long = length-set begins s at ∙ g .long;
+          filled = fill-more (λ q. entryAt b q 0) begins s at (omega (arith, g .long, sizes .few-states)) (g .at-is) (g .filled);
+        }
+
+    -- In the end all are, with the place behind the last.
+    pub begun-done : n ≤ s → Begins b (set begins n at)
+    begun-done h q hq =
+        let e : n ≡ s = omega (arith, g .within) in
+        let w = fill-more (λ q. entryAt b q 0) begins s at (omega (arith, g .long, sizes .few-states)) (g .at-is) (g .filled) in
+        rw e (w q (omega arith))

@@ -1,0 +1,65 @@
+-- An image to which none of the first ten grounds applies has passed them.
+use mathlib.Core.Path.{_≡_, refl}
+use mathlib.Core.Bool.{_||_}
+use mathlib.Core.List.{List}
+use Prim.Native.Nat.{ℕ, _*_}
+use native.Mathlib.Nat.{mul-le-mul}
+use native.Mathlib.Omega.{arith}
+use lib.ListN.{length}
+use Rattle.paper.specs.Below.{outside}
+use Rattle.paper.specs.Image.{states, classes, entries, classOf, imageLength, imageView, imageGrounds}
+use Rattle.paper.specs.View.{viewGrounds}
+use Rattle.paper.specs.Refusals.{first}
+use Rattle.paper.proofs.Refusals.{Clear, accepted}
+use Rattle.paper.proofs.Tests.{or-both, not-differ, not-outside}
+use Rattle.facts.proofs.TableFacts.{classed}
+use Rattle.facts.proofs.EntryFacts.{entered}
+use Rattle.image.specs.Grounds.{firstGrounds}
+use Rattle.image.specs.Passed.{Passed}
+
+-- Where none of the first ten grounds applies, the image has passed them with its own counts.
+pub passed : (b : List ℕ) → Clear (firstGrounds b) → Passed b (states b) (classes b) (entries b)
+unfolding firstGrounds imageGrounds viewGrounds
+passed b (_, (g₂, (g₃, (_, (_, (_, (g₇, (g₈, (g₉, (g₁₀, _)))))))))) =
+    let n = states b in
+    let k = classes b in
+    let m = entries b in
+    let (ns, others) = or-both (outside 1 512 n) (outside 1 256 k || outside k (n * k) m) g₂ in
+    let (ks, ms) = or-both (outside 1 256 k) (outside k (n * k) m) others in
+    let (n₁, n₂) = not-outside 1 512 n ns in
+    let (k₁, k₂) = not-outside 1 256 k ks in
+    let (m₁, m₂) = not-outside k (n * k) m ms in
+    let E = entered (imageView b) m g₈ g₉ g₁₀ in
+    record {
+      states-are = refl;
+      classes-are = refl;
+      entries-are = refl;
+      some-states = n₁;
+      few-states = n₂;
+      some-classes = k₁;
+      few-classes = k₂;
+      enough = m₁;
+      not-many = m₂;
+      laid = record {
+        few-states = n₂;
+        few-entries = omega (arith, m₂, mul-le-mul n₂ k₂);
+        long = not-differ (length b) (imageLength n m) g₃;
+        counted = E .total;
+      };
+      all-classed = classed k (classOf b) g₇;
+      inside = E .inside;
+      full = E .full;
+      few = E .few;
+      class-below = E .class-below;
+      rises = E .rises;
+      next-below = E .next-below;
+    }
+
+-- So it has where the first ten grounds answer 0.
+pub passed-all : (b : List ℕ) → first (firstGrounds b) ≡ 0 → Passed b (states b) (classes b) (entries b)
+unfolding firstGrounds imageGrounds viewGrounds
+passed-all b e = passed b (accepted (firstGrounds b) refl e)
+
+-- The counts may be named in any way.
+pub passed-for : {b : List ℕ} {n k m k′ m′ : ℕ} → k ≡ k′ → m ≡ m′ → Passed b n k m → Passed b n k′ m′
+passed-for e q P = rw (← e, ← q) P

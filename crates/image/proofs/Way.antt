@@ -1,0 +1,115 @@
+-- The look-up on its way along the defaults of an accepted image.
+use mathlib.Core.Path.{_≡_, refl, sym, ap, _∙_}
+use mathlib.Core.Bool.{Bool, true, false}
+use mathlib.Core.List.{List}
+use mathlib.Core.Option.{Option, none, some}
+use Prim.Native.Nat.{ℕ, suc, _+_, _*_, _<_}
+use native.Mathlib.Nat.{zero-add, add-zero}
+use native.Mathlib.Omega.{arith}
+use Rattle.paper.specs.Below.{or, when, differ}
+use Rattle.paper.specs.Words.{number16}
+use Rattle.paper.specs.Sentences.{Serves}
+use Rattle.paper.specs.View.{Found, here, stored, chain, look}
+use Rattle.paper.specs.Image.{states, classes, recordsAt, defaultFrom, default, entriesPart, imageView}
+use Rattle.paper.proofs.Tests.{none≢some}
+use Rattle.paper.proofs.Chain.{some-same, chain-short, chain-default}
+use Rattle.paper.proofs.Look.{serves-own, serves-on, serves-find}
+use Rattle.facts.proofs.ImageFacts.{AcceptedImage}
+use Rattle.image.specs.Forms.{stepOf, storedIn}
+use Rattle.image.specs.declared.Step.{Step}
+use Rattle.image.specs.declared.Step.the-variants.{Stored, Nothing}
+use Rattle.image.proofs.Cases.{step-stored, step-nothing}
+use Rattle.image.proofs.Parts.{part-stored}
+use Rattle.image.proofs.Accepted.{accepted-laid, root-stores}
+
+-- The steps that a state's chain has left, 0 where it has no end.
+abbrev pub stepsLeft : List ℕ → ℕ → ℕ
+stepsLeft b s = or (chain (imageView b) (states b) s) 0
+
+-- The look-up from `state` has come to s after so many hops: what the chain of s gives, the chain of `state` gives so many hops further.
+pub record Way (b : List ℕ) (state class s hops : ℕ) : Type 0 where
+  pub inside : s < states b
+  pub ends : chain (imageView b) (states b) s ≡ some (stepsLeft b s)
+  pub few : hops + stepsLeft b s < 512
+  pub leads : (h t : ℕ) → Serves (imageView b) s class h t → Serves (imageView b) state class (hops + h) t
+
+-- It goes on from s at d, one hop further, and a step less is left.
+pub record Onward (b : List ℕ) (state class s hops d : ℕ) : Type 0 where
+  pub way : Way b state class d (hops + 1)
+  pub nearer : stepsLeft b d + 1 ≡ stepsLeft b s
+
+-- A default that a record names is the number that stands there.
+default-number : (x d : ℕ) → defaultFrom x ≡ some d → x ≡ d
+default-number x d e = go (differ x 65535) e
+  where
+    go : (o : Bool) → when o x ≡ some d → x ≡ d
+    go true q = some-same q
+    go false q = absurd (none≢some none d refl q)
+
+-- A chain that ends after l steps has l left.
+chain-left : (b : List ℕ) (s l : ℕ) → chain (imageView b) (states b) s ≡ some l → stepsLeft b s ≡ l
+chain-left b s l e = ap (λ (o : Option ℕ). or o 0) e
+
+module _ (b : List ℕ) (A : AcceptedImage b) where
+  -- Every chain ends after the steps that it has left.
+  ends-left : (s : ℕ) → s < states b → chain (imageView b) (states b) s ≡ some (stepsLeft b s)
+  ends-left s h = let (l, e) = A .right .ends s h in e ∙ ap {B = Option ℕ} some (sym (chain-left b s l e))
+
+  module _ (state class : ℕ) (hs : state < states b) (hc : class < classes b) where
+    -- It starts at the state itself.
+    pub way-start : Way b state class state 0
+    way-start =
+        let e = ends-left state hs in
+        record {
+          inside = hs;
+          ends = e;
+          few = omega (arith, chain-short (imageView b) (states b) state (stepsLeft b state) e, A .few-states);
+          leads = λ h t S. rw (zero-add h) S;
+        }
+
+    module _ (s hops : ℕ) (W : Way b state class s hops) where
+      -- A target stored here is what it finds, after these hops.
+      way-found : (t : ℕ) → stored (imageView b) s class ≡ some t → look (imageView b) state class ≡ record { target = t; hops = hops }
+      way-found t e =
+          let own : Serves (imageView b) state class hops t = rw add-zero at (W .leads 0 t (serves-own (imageView b) class s t e)) in
+          let q = ends-left state hs in
+          ap (λ (o : Option Found). or o (here 0))
+          (serves-find (imageView b) class state (stepsLeft b state) hops t q (chain-short (imageView b) (states b) state (stepsLeft b state) q) own)
+
+      -- Where nothing is stored here it goes on at the default.
+      way-on : stored (imageView b) s class ≡ none → (d : ℕ) → d ≡ number16 b (recordsAt b + 4 * s) → Onward b state class s hops d
+      unfolding default
+      way-on e d q = go (default b s) refl
+        where
+          go : (o : Option ℕ) → default b s ≡ o → Onward b state class s hops d
+          go none r = let (t, w) = root-stores b A s (W .inside) r class hc in absurd (none≢some (stored (imageView b) s class) t e w)
+          go (some x) r =
+              let d-is : d ≡ x = q ∙ default-number (number16 b (recordsAt b + 4 * s)) x r in
+              let (k, w, l) = chain-default (imageView b) (states b) s x (stepsLeft b s) (W .ends) r in
+              let below : x < states b = A .right .inside s x (W .inside) r in
+              let left : stepsLeft b x ≡ k = chain-left b x k w in
+              let on : Way b state class x (hops + 1) =
+              record {
+                inside = below;
+                ends = ends-left x below;
+                few = omega (arith, W .few);
+                leads = λ h t S.
+                    let further : hops + suc h ≡ hops + 1 + h = omega arith in
+                    rw (← further) (W .leads (suc h) t (serves-on (imageView b) class s x h t e r S));
+              } in
+              rw d-is (record { way = on; nearer = omega arith })
+
+      module _ (row : List ℕ) (step : Step) (row-is : row ≡ entriesPart b s) (step-is : step ≡ stepOf (storedIn row class)) where
+        -- The step over the part is the state's.
+        step-here : step ≡ stepOf (stored (imageView b) s class)
+        step-here = step-is ∙ ap stepOf (ap (λ (r : List ℕ). storedIn r class) row-is ∙ part-stored b (accepted-laid b A) s (W .inside) class)
+
+        -- A step over the state's entries that answers a target has found it.
+        pub way-answered : (t : ℕ) → step ≡ Stored t → (t ≡ look (imageView b) state class .target) × (hops ≡ look (imageView b) state class .hops)
+        way-answered t q =
+            let found = way-found t (step-stored (stored (imageView b) s class) step t step-here q) in
+            (sym (ap (λ (f : Found). f .target) found), sym (ap (λ (f : Found). f .hops) found))
+
+        -- One that answers nothing sends it on.
+        pub way-sent : step ≡ Nothing → (d : ℕ) → d ≡ number16 b (recordsAt b + 4 * s) → Onward b state class s hops d
+        way-sent q = way-on (step-nothing (stored (imageView b) s class) step step-here q)

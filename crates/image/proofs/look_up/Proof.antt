@@ -1,0 +1,107 @@
+-- The loop's invariant: the look-up has come to s after the hops counted. The measure is the steps that are left of the chain.
+use Prim.Native.Nat.{_+_, _*_, _≤_}
+use native.Mathlib.Omega.{arith}
+use lib.ListN.{length}
+use borrow.Author.Needs.{needs}
+use Rattle.image.proofs.Accepted.{accepted-laid, part-row, record-in}
+use Rattle.image.proofs.Way.{Way, Onward, stepsLeft, way-start, way-answered, way-sent}
+use Rattle.image.proofs.look_up.Statement.{statement}
+use Rattle.image.proofs.look_up.Tie as tie
+
+abbrev Inv-loop : tie.InvT-loop
+Inv-loop image begins records k state class s₀ hops₀ s hops = Way image state class s hops
+
+abbrev μ-loop : tie.MeasureT-loop
+μ-loop image begins records k state class s₀ hops₀ s hops = stepsLeft image s
+
+loop-holds : tie.Need-loop-holds Inv-loop μ-loop
+loop-holds c = let t = c .before in way-start (t .args .image .now) (t .pre .0 .accepted) (t .args .state) (t .args .class) (t .pre .1) (t .pre .2)
+
+cast-entries-of : tie.Need-cast-entries-of Inv-loop μ-loop
+cast-entries-of c = search needs
+
+entries-of-requires : tie.Need-entries-of-requires Inv-loop μ-loop
+entries-of-requires c κs = let t = c .before .before in (accepted-laid (t .args .image .now) (t .pre .0 .accepted), t .pre .0 .begin, c .loop .inv .inside)
+
+stored-in-requires : tie.Need-stored-in-requires Inv-loop μ-loop
+stored-in-requires c κs =
+    let l = c .before in
+    let t = l .before .before in
+    let A = t .pre .0 .accepted in
+    let row = part-row (t .args .image .now) A (l .loop .s) (l .loop .inv .inside) in
+    rw (c .entries-of .ensures, t .pre .0 .classes-is) (row, A .few-classes, t .pre .2)
+
+enum-known-t : tie.Need-enum-known-t Inv-loop μ-loop
+enum-known-t c = search needs
+
+returns : tie.Need-returns Inv-loop μ-loop
+returns c =
+    let step = c .before .before .before in
+    let l = step .before .before in
+    let t = l .before .before in
+    way-answered (t .args .image .now) (t .pre .0 .accepted) (t .args .state) (t .args .class) (t .pre .1) (t .pre .2) (l .loop .s) (l .loop .hops) (l .loop .inv)
+    (step .before .entries-of .result .now) (step .stored-in .result) (step .before .entries-of .ensures) (step .stored-in .ensures) _ (c .before .t .given .1)
+
+enum-told : tie.Need-enum-told Inv-loop μ-loop
+enum-told c = search needs
+
+cast-get16 : tie.Need-cast-get16 Inv-loop μ-loop
+cast-get16 c = search needs
+
+mul-get16 : tie.Need-mul-get16 Inv-loop μ-loop
+mul-get16 c = search needs
+
+-- The record of the state stands in the image.
+record-here : (c : tie.At-loop Inv-loop μ-loop) → c .before .before .args .records + 4 * c .loop .s + 4 ≤ length (c .before .before .args .image .now)
+record-here c = let t = c .before .before in rw (t .pre .0 .records-is) (record-in (t .args .image .now) (t .pre .0 .accepted) (c .loop .s) (c .loop .inv .inside))
+
+add-get16 : tie.Need-add-get16 Inv-loop μ-loop
+add-get16 c = search (needs, record-here (c .before .before .before .before))
+
+get16-requires : tie.Need-get16-requires Inv-loop μ-loop
+get16-requires c κs = omega (arith, record-here (c .before .before .before .before))
+
+-- The place at the head of the loop, from that behind the read default.
+abbrev head : tie.After-get16 Inv-loop μ-loop → tie.At-loop Inv-loop μ-loop
+head c = c .before .before .before .before .before
+
+-- Where nothing is stored the way goes on at the default.
+onward : (c : tie.After-get16 Inv-loop μ-loop)
+    → Onward (head c .before .before .args .image .now) (head c .before .before .args .state) (head c .before .before .args .class) (head c .loop .s) (head c .loop .hops) (c .get16 .result)
+onward c =
+    let step = c .before .before .before in
+    let l = head c in
+    let t = l .before .before in
+    way-sent (t .args .image .now) (t .pre .0 .accepted) (t .args .state) (t .args .class) (t .pre .1) (t .pre .2) (l .loop .s) (l .loop .hops) (l .loop .inv)
+    (step .before .entries-of .result .now) (step .stored-in .result) (step .before .entries-of .ensures) (step .stored-in .ensures) (c .before .enum-told .given .1)
+    (c .get16 .result) (rw (← (t .pre .0 .records-is)) (c .get16 .ensures))
+
+add-hops : tie.Need-add-hops Inv-loop μ-loop
+add-hops c = let o = onward c in search (needs, o .nearer, head c .loop .inv .few)
+
+loop-less : tie.Need-loop-less Inv-loop μ-loop
+loop-less c = omega (arith, onward c .nearer)
+
+loop-again : tie.Need-loop-again Inv-loop μ-loop
+loop-again c = onward c .way
+
+pub look-up-spec : {M : Type 1} → statement M
+look-up-spec =
+    tie.close
+    (tie.spec
+    Inv-loop
+    μ-loop
+    loop-holds
+    cast-entries-of
+    entries-of-requires
+    stored-in-requires
+    enum-known-t
+    returns
+    enum-told
+    cast-get16
+    mul-get16
+    add-get16
+    get16-requires
+    add-hops
+    loop-less
+    loop-again)

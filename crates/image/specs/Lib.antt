@@ -1,0 +1,4 @@
+pub mod Forms
+pub mod Laid
+pub mod Grounds
+pub mod Passed

@@ -1,0 +1,9 @@
+pub mod Filled
+pub mod Replaced
+pub mod Climbing
+pub mod OnPath
+pub mod Turning
+pub mod Turned
+pub mod Renewed
+pub mod Held
+pub mod Joined

@@ -1,0 +1,98 @@
+-- The first grounds of an image that are left from each on, for the counts and the start state that were read.
+use mathlib.Core.Path.{_≡_, refl}
+use mathlib.Core.Bool.{false, _||_}
+use mathlib.Core.List.{List, [], _∷_}
+use Prim.Native.Nat.{ℕ, _+_, _-_, _*_, _≤_, _<_}
+use native.Mathlib.Nat.{mul-le-mul}
+use native.Mathlib.Omega.{arith}
+use lib.Dec.{ltb, leb}
+use lib.ListN.{length, take}
+use borrow.Author.Tests.{lt-ltb, le-ltb}
+use Rattle.paper.specs.Below.{any, sum, differ, outside}
+use Rattle.paper.specs.Words.{words, checkWord}
+use Rattle.paper.specs.Refusals.{Ground, first}
+use Rattle.paper.specs.Table.{classesBad}
+use Rattle.paper.specs.View.{recordBad, entryClassBad, anyEntry, viewGrounds}
+use Rattle.paper.specs.Image.{states, classes, start, entries, classOf, count, distanceBack, wholeLength, check, imageLength, imageView, imageGrounds}
+use Rattle.paper.proofs.Tests.{or-both, not-outside, not-differ}
+use Rattle.table.proofs.Decided.{Decided, passed, applies}
+use Rattle.image.specs.Laid.{Laid}
+use Rattle.judge.specs.Counted.{Counted}
+use Rattle.image.specs.Grounds.{firstGrounds}
+
+-- Ground 10.
+abbrev pub from10 : List ℕ → List Ground
+from10 b = (10, anyEntry (imageView b) (λ s j. leb (states b) (imageView b .entryNext s j))) ∷ []
+
+-- Grounds 9 and 10.
+abbrev pub from9 : List ℕ → List Ground
+from9 b = (9, anyEntry (imageView b) (entryClassBad (imageView b))) ∷ from10 b
+
+-- Grounds 8 to 10.
+abbrev pub from8 : List ℕ → List Ground
+from8 b = (8, any (states b) (recordBad (imageView b)) || differ (sum (states b) (count b)) (entries b)) ∷ from9 b
+
+module _ (b : List ℕ) (n k m s : ℕ) where
+  -- Grounds 7 to 10.
+  abbrev pub from7 : List Ground
+  from7 = (7, classesBad k (classOf b)) ∷ from8 b
+
+  -- Grounds 6 to 10.
+  abbrev pub from6 : List Ground
+  from6 = (6, leb n s) ∷ from7
+
+  -- Grounds 5 to 10.
+  abbrev pub from5 : List Ground
+  from5 = (5, differ (check b) (checkWord (words (take (length b - 2) b)))) ∷ from6
+
+  -- Grounds 4 to 10.
+  abbrev pub from4 : List Ground
+  from4 = (4, differ (wholeLength b) (length b) || differ (distanceBack b) (4 * m + 12)) ∷ from5
+
+  -- Grounds 3 to 10.
+  abbrev pub from3 : List Ground
+  from3 = (3, differ (length b) (imageLength n m)) ∷ from4
+
+  -- Grounds 2 to 10.
+  abbrev pub from2 : List Ground
+  from2 = (2, outside 1 512 n || (outside 1 256 k || outside k (n * k) m)) ∷ from3
+
+-- All of them.
+all-grounds : (b : List ℕ) → Decided (first (firstGrounds b)) ((1, ltb (length b) 24) ∷ from2 b (states b) (classes b) (entries b) (start b))
+unfolding firstGrounds imageGrounds viewGrounds
+all-grounds b = record { decided = refl }
+
+-- An image under 24 bytes.
+pub short : (b : List ℕ) → length b < 24 → 1 ≡ first (firstGrounds b)
+short b h = applies (all-grounds b) (lt-ltb (length b) 24 h)
+
+-- An image of 24 bytes or more, whose counts and start state were read.
+pub not-short : (b : List ℕ) (n k m s : ℕ) → 24 ≤ length b → n ≡ states b → k ≡ classes b → m ≡ entries b → s ≡ start b
+    → Decided (first (firstGrounds b)) (from2 b n k m s)
+not-short b n k m s h en ek em es = rw (en, ek, em, es) (passed (all-grounds b) (le-ltb (length b) 24 h))
+
+-- Counts in range.
+pub record InRange (n k m : ℕ) : Type 0 where
+  pub few-states : n ≤ 512
+  pub few-classes : k ≤ 256
+  pub few-entries : m ≤ 131072
+
+-- Where ground 2 does not apply they are.
+pub in-range : (n k m : ℕ) → outside 1 512 n || (outside 1 256 k || outside k (n * k) m) ≡ false → InRange n k m
+in-range n k m e =
+    let (ns, others) = or-both (outside 1 512 n) (outside 1 256 k || outside k (n * k) m) e in
+    let (ks, ms) = or-both (outside 1 256 k) (outside k (n * k) m) others in
+    let few-n = not-outside 1 512 n ns .1 in
+    let few-k = not-outside 1 256 k ks .1 in
+    record { few-states = few-n; few-classes = few-k; few-entries = omega (arith, not-outside k (n * k) m ms .1, mul-le-mul few-n few-k) }
+
+-- Where ground 8 does not apply the records count the entries.
+pub counts-laid : (b : List ℕ) (n m : ℕ) → Counted b n m → any (states b) (recordBad (imageView b)) || differ (sum (states b) (count b)) (entries b) ≡ false → Laid b
+counts-laid b n m C e =
+    let (_, sums) = or-both (any (states b) (recordBad (imageView b))) (differ (sum (states b) (count b)) (entries b)) e in
+    record {
+      few-states = omega (arith, C .states-are, C .few-states);
+      few-entries = omega (arith, C .entries-are, C .few-entries);
+      long = omega (arith, C .long, C .states-are, C .entries-are);
+      counted = not-differ (sum (states b) (count b)) (entries b) sums;
+    }

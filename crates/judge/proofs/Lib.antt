@@ -1,0 +1,4 @@
+pub mod Records
+pub mod Rows
+pub mod Entries
+pub mod Judged

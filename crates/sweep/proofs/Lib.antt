@@ -1,0 +1,9 @@
+pub mod Cursors
+pub mod Places
+pub mod Taken
+pub mod Defaults
+pub mod Repeats
+pub mod Needless
+pub mod Worst
+pub mod Sweeping
+pub mod Verdict
