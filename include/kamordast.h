@@ -13,11 +13,41 @@
 extern "C" {
 #endif
 
+/* What compact, write and expand answer: 0 or the refusal's number, and the length of the result in the room. */
+typedef struct {
+    uint32_t refused;
+    uint32_t length;
+} kamordast_built;
+
+/* What scan answers: 0 or the refusal's number, bytes taken, the state, reports and hops. */
+typedef struct {
+    uint32_t refused;
+    uint32_t taken;
+    uint32_t state;
+    uint32_t reports;
+    uint32_t hops;
+} kamordast_scanned;
+
 /* Judges a plain table: 0, or the refusal's number. */
 uint32_t kamordast_judge_table(const uint8_t *table, size_t table_length);
 
 /* Judges an image: 0, or the refusal's number. An image is to be used only after it was judged 0, and only as long as it stays unchanged. */
 uint32_t kamordast_judge_image(const uint8_t *image, size_t image_length);
+
+/* Compacts a table with a path bound into an image at the front of the room; the rest of the room stays. */
+kamordast_built kamordast_compact(const uint8_t *table, size_t table_length, uint16_t bound, uint8_t *room, size_t room_length);
+
+/* Writes a table with a list of defaults, 16 bits for each state and 65535 for none, into an image at the front of the room. */
+kamordast_built kamordast_write(const uint8_t *table, size_t table_length, const uint8_t *defaults, size_t defaults_length, uint8_t *room,
+                                size_t room_length);
+
+/* Expands an image into its table at the front of the room. */
+kamordast_built kamordast_expand(const uint8_t *image, size_t image_length, uint8_t *room, size_t room_length);
+
+/* Scans a payload from a state. A report is 6 bytes in the room: the byte's offset in this call (32 bits) and the label (16 bits). The scan stops before
+ * the first byte whose report has no room. */
+kamordast_scanned kamordast_scan(const uint8_t *image, size_t image_length, uint32_t state, const uint8_t *payload, size_t payload_length,
+                                 uint8_t *room, size_t room_length);
 
 #ifdef __cplusplus
 }

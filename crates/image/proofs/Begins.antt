@@ -3,26 +3,13 @@ use mathlib.Core.Path.{_≡_, _∙_}
 use mathlib.Core.List.{List}
 use Prim.Native.Nat.{ℕ, _+_, _*_, _≤_, _<_}
 use native.Mathlib.Numerals.{add-one}
-use native.Mathlib.Decide.{ℕ-discrete}
 use native.Mathlib.Omega.{arith}
-use lib.ListN.{length, getD, set, length-set}
-use lib.Seq.{getD-set-same, getD-set-other}
+use lib.ListN.{length, set, length-set}
 use Rattle.paper.specs.Words.{number16}
 use Rattle.paper.specs.Image.{states, entriesAt, recordsAt, count, entryAt}
 use Rattle.paper.proofs.Sums.{sum-up}
+use Rattle.paper.proofs.Filled.{Filled, fill-more}
 use Rattle.image.specs.Laid.{Laid, Begins}
-
--- The first so many places of the list hold what f gives.
-abbrev pub Filled : (ℕ → ℕ) → List ℕ → ℕ → Type 0
-Filled f l i = (q : ℕ) → q < i → getD l q 0 ≡ f q
-
--- One place more.
-pub fill-more : (f : ℕ → ℕ) (l : List ℕ) (i x : ℕ) → i < length l → x ≡ f i → Filled f l i → Filled f (set l i x) (i + 1)
-fill-more f l i x h e filled q hq = go (ℕ-discrete q i)
-  where
-    go : Dec (q ≡ i) → getD (set l i x) q 0 ≡ f q
-    go (yes w) = rw w (getD-set-same l i x 0 h ∙ e)
-    go (no w) = getD-set-other l i q x 0 w ∙ filled q (omega arith)
 
 module _ (b : List ℕ) (L : Laid b) where
   -- The records stand behind the labels.

@@ -40,11 +40,12 @@ default-from d = go (eqb d 65535) refl
     go true e = rw e
     go false e = rw e
 
--- A step that answers a target found one stored, and one that answers nothing found none.
+-- A step that answers a target found one stored.
 pub step-stored : (o : Option ℕ) (r : Step) (t : ℕ) → r ≡ stepOf o → r ≡ Stored t → o ≡ some t
 step-stored none r t e q = let z : Nothing ≡ Stored t = sym e ∙ q in let w : _≡_ {A = ℕ} 0 1 = cc in absurd (omega arith)
 step-stored (some x) r t e q = let z : Stored x ≡ Stored t = sym e ∙ q in let w : x ≡ t = cc in ap {B = Option ℕ} some w
 
+-- A step that answers nothing found none.
 pub step-nothing : (o : Option ℕ) (r : Step) → r ≡ stepOf o → r ≡ Nothing → o ≡ none
 step-nothing none r e q = refl
 step-nothing (some x) r e q = let z : Stored x ≡ Nothing = sym e ∙ q in let w : _≡_ {A = ℕ} 0 1 = cc in absurd (omega arith)

@@ -1,6 +1,5 @@
 pub mod Cases
 pub mod Begins
-pub mod Firsts
 pub mod Rows
 pub mod Parts
 pub mod Accepted

@@ -13,7 +13,7 @@ use Rattle.paper.specs.Words.{number16}
 use Rattle.paper.proofs.Rising.{ahead, full-row}
 use Rattle.image.specs.Forms.{storedIn}
 use Rattle.image.specs.Laid.{Rising, Row}
-use Rattle.image.proofs.Firsts.{first-nowhere, first-at}
+use Rattle.paper.proofs.Below.{firstOf-nowhere, firstOf-at}
 
 -- The class of an entry of a row.
 abbrev pub classAt : List ℕ → ℕ → ℕ
@@ -26,7 +26,7 @@ nextFor row c j = when (eqb (classAt row j) c) (number16 row (4 * j + 2))
 -- A class that no entry has is not stored.
 row-nowhere : (row : List ℕ) (c : ℕ) → ((j : ℕ) → j < length row / 4 → ¬ (classAt row j ≡ c)) → storedIn row c ≡ none
 unfolding storedIn
-row-nowhere row c h = first-nowhere (nextFor row c) (length row / 4) (λ i l. rw (ne-eqb (classAt row i) c (h i l)))
+row-nowhere row c h = firstOf-nowhere (nextFor row c) (length row / 4) (λ i l. rw (ne-eqb (classAt row i) c (h i l)))
 
 -- The first j entries of the row have classes below the class.
 pub record Passed (row : List ℕ) (count c j : ℕ) : Type 0 where
@@ -43,7 +43,7 @@ module _ {row : List ℕ} {count : ℕ} (R : Rising row count) where
   unfolding storedIn
   row-at c j h e =
       rw entries-are
-      (first-at (nextFor row c) count j (number16 row (4 * j + 2)) h
+      (firstOf-at (nextFor row c) count j (number16 row (4 * j + 2)) h
       (λ i l. rw (ne-eqb (classAt row i) c (λ q. absurd (omega (arith, ahead (classAt row) count (R .rises) i j l h)))))
       (rw (eq-eqb (classAt row j) c e)))
 

@@ -2,23 +2,37 @@
 use mathlib.Core.Path.{_≡_}
 use mathlib.Core.Logic.{_↔_}
 use mathlib.Core.List.{List}
-use Prim.Native.Nat.{ℕ, _+_, _/_, _≤_, _<_}
+use mathlib.Core.Option.{none}
+use Prim.Native.Nat.{ℕ, _+_, _*_, _/_, _≤_, _<_}
 use lib.ListN.{length, take}
+use Rattle.paper.specs.Below.{sum, howMany, given}
 use Rattle.paper.specs.Words.{Bytes}
-use Rattle.paper.specs.View.{depthOf}
-use Rattle.paper.specs.Results.{defaultsOf, tableView}
-use Rattle.paper.specs.Forest.{forest, defaults}
+use Rattle.paper.specs.Table.{states, classes, classOf, labels, next}
+use Rattle.paper.specs.Image as image
+use Rattle.paper.specs.View.{depthOf, look}
+use Rattle.paper.specs.Results.{defaultsOf, entriesOf, tableView, tableOf}
+use Rattle.paper.specs.Scan.{scanOf}
+use Rattle.paper.specs.Forest.{weight, weightsOf, forest, defaults}
 use Rattle.paper.specs.Operations.{judgeTable, judgeImage, building, compact, write, expand, scan}
 use Rattle.paper.specs.Sentences.{FirstOf, tableSentences, imageSentences, compactSentences, writeSentences, expandSentences, scanSentences}
 use Rattle.paper.proofs.Distances.{TrueDistances}
 use Rattle.paper.proofs.Exact as exact
+use Rattle.paper.proofs.Refused as refusing
+use Rattle.paper.proofs.Refused.{Unchanged}
+use Rattle.facts.proofs.ImageFacts.{accepted-image}
 use Rattle.damage.proofs.Altered.{Altered}
 use Rattle.damage.proofs.Damage as damage
 use Rattle.trees.proofs.TrueDistances as trees
 use Rattle.trees.proofs.Defaults as chosen
+use Rattle.trees.proofs.Bounds as bounds
+use Rattle.trees.proofs.EntriesSum as sums
 use Rattle.trips.proofs.Building.{result}
 use Rattle.trips.proofs.ExpandsBack as expands
 use Rattle.trips.proofs.WritesBack as writes
+use Rattle.scan.proofs.Follows.{Follows}
+use Rattle.scan.proofs.Hops as hops
+use Rattle.scan.proofs.Hops.{hopsAt}
+use Rattle.kamordast.proofs.Scanned as scanned
 
 -- Each operation's number is that of the first of its sentences that holds, 0 where none does.
 pub refusals-exact : ((t : List ℕ) (number : ℕ) → judgeTable t ≡ number ↔ FirstOf (tableSentences t) number)
@@ -28,6 +42,14 @@ pub refusals-exact : ((t : List ℕ) (number : ℕ) → judgeTable t ≡ number 
     × ((b room : List ℕ) (number : ℕ) → expand b room .number ≡ number ↔ FirstOf (expandSentences b (length room)) number)
     × ((b : List ℕ) (s : ℕ) (payload room : List ℕ) (number : ℕ) → scan b s payload room .number ≡ number ↔ FirstOf (scanSentences b s payload) number)
 refusals-exact = (exact.judge-table-exact, exact.judge-image-exact, exact.compact-exact, exact.write-exact, exact.expand-exact, exact.scan-exact)
+
+-- A refusal answers its number with every other number 0, and leaves the room as it was.
+pub refused-unchanged : ((t : List ℕ) (D : ℕ) (room : List ℕ) → ¬ (compact t D room .number ≡ 0) → Unchanged (compact t D room) room)
+    × ((t ds room : List ℕ) → ¬ (write t ds room .number ≡ 0) → Unchanged (write t ds room) room)
+    × ((b room : List ℕ) → ¬ (expand b room .number ≡ 0) → Unchanged (expand b room) room)
+    × ((b : List ℕ) (s : ℕ) (payload room : List ℕ) → ¬ (scan b s payload room .number ≡ 0)
+    → (scan b s payload room .taken ≡ 0) × (scan b s payload room .state ≡ 0) × (scan b s payload room .reports ≡ 0) × (scan b s payload room .hops ≡ 0) × (scan b s payload room .room ≡ room))
+refused-unchanged = (refusing.compact-refused, refusing.write-refused, refusing.expand-refused, refusing.scan-refused)
 
 -- Of an accepted image every proper beginning is refused.
 pub prefix-refused : (b : List ℕ) (p : ℕ) → judgeImage b ≡ 0 → p < length b → ¬ (judgeImage (take p b) ≡ 0)
@@ -50,6 +72,39 @@ expands-back = (expands.expand-write, expands.expand-compact)
 pub writes-back : (b room room′ : List ℕ) → Bytes b → expand b room .number ≡ 0 → length b ≤ length room′ → write (result (expand b room)) (defaultsOf b) room′ ≡ building 0 b room′
 writes-back = writes.write-expand-own
 
+-- After every byte a scan is in the plain table's state and has reported exactly its matches.
+pub scan-follows : (b : List ℕ) → Bytes b → judgeImage b ≡ 0 → (s : ℕ) (payload : List ℕ) (room : ℕ) → s < image.states b → Bytes payload
+    → (i : ℕ) → i ≤ scanOf b s payload room .taken
+    → Follows (classOf (tableOf b)) (labels (tableOf b)) (next (tableOf b)) s (take i payload) (scanOf b s (take i payload) room)
+scan-follows = scanned.scan-follows
+
+-- Hops counted are those of the chain's definition: the sum over the bytes taken of the hops of their look-ups.
+pub hops-counted : (b : List ℕ) (s : ℕ) (payload : List ℕ) (room : ℕ) → scanOf b s payload room .hops ≡ sum (scanOf b s payload room .taken) (hopsAt b s payload room)
+hops-counted = hops.hops-counted
+
+-- They are at most worst times the bytes taken.
+pub hops-bounded : (b : List ℕ) (s : ℕ) (payload : List ℕ) (room : ℕ) → judgeImage b ≡ 0 → s < image.states b → Bytes payload
+    → scanOf b s payload room .hops ≤ image.worst b * scanOf b s payload room .taken
+hops-bounded b s payload room e = hops.hops-bounded b s payload room (accepted-image b e)
+
+-- Some state and byte cost exactly worst.
+pub worst-met : (b : List ℕ) → judgeImage b ≡ 0
+    → (s : ℕ) × (x : ℕ) × (s < image.states b) × (x < 256) × (look (image.imageView b) s (image.classOf b x) .hops ≡ image.worst b)
+worst-met = scanned.worst-met
+
 -- With path bound D no chain is longer than D halved and rounded up, so 17 is never given.
 pub half-of-bound : (t : List ℕ) (D : ℕ) → depthOf (tableView t (defaults t D)) ≤ (D + 1) / 2
 half-of-bound = chosen.defaults-depth
+
+-- Stored entries, plus defaults, plus the weights of the pairs added, equal n times k.
+pub entries-sum : (t : List ℕ) (D : ℕ)
+    → sum (states t) (λ s. length (entriesOf t (defaults t D) s)) + (howMany (states t) (λ s. given (defaults t D s)) + weightsOf (weight t) (forest t D .added)) ≡ states t * classes t
+entries-sum = sums.entries-sum
+
+-- D 0 gives no defaults.
+pub bound-zero : (t : List ℕ) (s : ℕ) → defaults t 0 s ≡ none
+bound-zero = bounds.bound-zero
+
+-- D at n - 1 or more binds nothing: all such bounds give the same defaults.
+pub bound-free : (t : List ℕ) (D D′ : ℕ) → states t ≤ D + 1 → states t ≤ D′ + 1 → defaults t D ≡ defaults t D′
+bound-free = bounds.bound-free

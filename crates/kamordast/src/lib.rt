@@ -1,5 +1,7 @@
 // The front door: the operations as Rattle and C call them. Each answers for all input that it can be handed.
-ghost use Rattle.paper.specs.Promises.{JudgesTable, JudgesImage};
+use answers::Built;
+use answers::Scanned;
+ghost use Rattle.paper.specs.Promises.{JudgesTable, JudgesImage, Writes, Compacts, Expands, Scans};
 
 // Judges a plain table: 0, or the refusal's number.
 #[no_mangle]
@@ -15,4 +17,41 @@ pub extern "C" fn kamordast_judge_image(image: &[u8]) -> u32
     ensures { λ r. ⌜ JudgesImage (now (image .entry)) r ⌝ }
 {
     judge::judge_image(image)
+}
+
+// Writes the image of a table and a default list at the front of the room.
+#[no_mangle]
+pub extern "C" fn kamordast_write(table: &[u8], defaults: &[u8], room: &mut [u8]) -> Built
+    ensures { λ r. ⌜ Writes (now (table .entry)) (now (defaults .entry)) (now (room .entry)) (r .refused) (r .length) (now (room .exit)) ⌝ }
+{
+    build::write(table, defaults, room)
+}
+
+// Compacts a table: chooses the bounded greedy forest and writes its image at the front of the room.
+#[no_mangle]
+pub extern "C" fn kamordast_compact(table: &[u8], bound: u16, room: &mut [u8]) -> Built
+    ensures { λ r. ⌜ Compacts (now (table .entry)) bound (now (room .entry)) (r .refused) (r .length) (now (room .exit)) ⌝ }
+{
+    build::compact(table, bound, room)
+}
+
+// Expands an image into its table at the front of the room.
+#[no_mangle]
+pub extern "C" fn kamordast_expand(image: &[u8], room: &mut [u8]) -> Built
+    ensures { λ r. ⌜ Expands (now (image .entry)) (now (room .entry)) (r .refused) (r .length) (now (room .exit)) ⌝ }
+{
+    expand::expand(image, room)
+}
+
+// Scans a payload from a state and writes its reports at the front of the room.
+#[no_mangle]
+pub extern "C" fn kamordast_scan(
+    image: &[u8],
+    state: u32,
+    payload: &[u8],
+    room: &mut [u8],
+) -> Scanned
+    ensures { λ r. ⌜ Scans (now (image .entry)) state (now (payload .entry)) (now (room .entry)) (r .refused) (r .taken) (r .state) (r .reports) (r .hops) (now (room .exit)) ⌝ }
+{
+    scan::scan(image, state, payload, room)
 }

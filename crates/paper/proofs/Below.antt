@@ -137,6 +137,20 @@ module _ (f : ℕ → Option ℕ) where
       go none q e (no w) ih = ih q (omega arith)
       go (some x) q e d ih = let z : _≡_ {A = ℕ} 0 1 = cc in absurd (omega arith)
 
+  -- Where no number has a value there is no first.
+  pub firstOf-nowhere : (n : ℕ) → ((i : ℕ) → i < n → f i ≡ none) → firstOf n f ≡ none
+  firstOf-nowhere zero h = refl
+  firstOf-nowhere (suc n) h = rw (firstOf-nowhere n (λ i l. h i (omega arith)), h n (omega arith))
+
+  -- A value before which there is none is the first.
+  pub firstOf-at : (n j a : ℕ) → j < n → ((i : ℕ) → i < j → f i ≡ none) → f j ≡ some a → firstOf n f ≡ some a
+  firstOf-at zero j a l h e = absurd (not-suc-le-zero l)
+  firstOf-at (suc n) j a l h e = go (ℕ-discrete j n) (firstOf-at n j a)
+    where
+      go : Dec (j ≡ n) → (j < n → ((i : ℕ) → i < j → f i ≡ none) → f j ≡ some a → firstOf n f ≡ some a) → orElse (firstOf n f) (f n) ≡ some a
+      go (yes q) ih = rw (firstOf-nowhere n (λ i hi. h i (omega arith)), ← q, e)
+      go (no q) ih = rw (ih (omega arith) h e)
+
 -- What is made of the numbers below n depends on the values there only.
 pub any-same : (n : ℕ) (p q : ℕ → Bool) → ((i : ℕ) → i < n → p i ≡ q i) → any n p ≡ any n q
 any-same zero p q h = refl

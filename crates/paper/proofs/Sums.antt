@@ -1,13 +1,15 @@
 -- Sums over the numbers below n, and what follows: swap, pick, at most one, pigeonhole.
 use mathlib.Core.Path.{_≡_, refl, sym, ap, ap₂, _∙_}
-use mathlib.Core.Bool.{Bool, true, false, not}
+use mathlib.Core.Bool.{Bool, true, false, cond, not}
+use mathlib.Core.List.{[], _∷_}
 use Prim.Native.Nat.{ℕ, zero, suc, _+_, _*_, _≤_, _<_, zero-le}
 use native.Mathlib.Nat.{not-suc-le-zero}
 use native.Mathlib.Decide.{ℕ-discrete, decLe}
 use native.Mathlib.Omega.{arith}
 use lib.Dec.{eqb}
+use lib.ListN.{length, length-append}
 use borrow.Author.Tests.{eq-eqb, ne-eqb, eqb-true}
-use Rattle.paper.specs.Below.{sum, bit, howMany, any}
+use Rattle.paper.specs.Below.{sum, bit, howMany, any, each}
 use Rattle.paper.proofs.Below.{any-some, any-at}
 
 -- A sum depends on its terms only.
@@ -134,6 +136,29 @@ pick-one (suc n) a l = go (ℕ-discrete a n) (pick-one n a)
     go : Dec (a ≡ n) → (a < n → howMany n (λ i. eqb a i) ≡ 1) → howMany n (λ i. eqb a i) + bit (eqb a n) ≡ 1
     go (yes e) ih = omega (arith, ap bit (eq-eqb a n e), sum-zero n (λ i. bit (eqb a i)) (λ i k. ap bit (ne-eqb a i (λ q. omega arith))))
     go (no e) ih = omega (arith, ap bit (ne-eqb a n e), ih (omega arith))
+
+-- A value that one number alone has is the sum.
+pub pick-value : (n a m : ℕ) → a < n → sum n (λ i. cond (eqb a i) m 0) ≡ m
+pick-value zero a m l = absurd (not-suc-le-zero l)
+pick-value (suc n) a m l = go (ℕ-discrete a n) (pick-value n a m)
+  where
+    go : Dec (a ≡ n) → (a < n → sum n (λ i. cond (eqb a i) m 0) ≡ m) → sum n (λ i. cond (eqb a i) m 0) + cond (eqb a n) m 0 ≡ m
+    go (yes e) ih =
+        omega (
+          arith,
+          ap (λ (b : Bool). cond b m 0) (eq-eqb a n e),
+          sum-zero n (λ i. cond (eqb a i) m 0) (λ i k. ap (λ (b : Bool). cond b m 0) (ne-eqb a i (λ q. omega arith))),
+        )
+    go (no e) ih = omega (arith, ap (λ (b : Bool). cond b m 0) (ne-eqb a n e), ih (omega arith))
+
+-- A list with one place for each number that passes is as long as there are such numbers.
+pub length-passed : {A : Type 0} (n : ℕ) (p : ℕ → Bool) (f : ℕ → A) → length (each n (λ i. cond (p i) (f i ∷ []) [])) ≡ howMany n p
+length-passed zero p f = refl
+length-passed (suc n) p f = length-append (each n (λ i. cond (p i) (f i ∷ []) [])) (cond (p n) (f n ∷ []) []) ∙ ap₂ _+_ (length-passed n p f) (go (p n))
+  where
+    go : (b : Bool) → length (cond b (f n ∷ []) []) ≡ bit b
+    go true = refl
+    go false = refl
 
 -- Where any two that pass are one, at most one is counted.
 pub at-most-one : (n : ℕ) (p : ℕ → Bool) → ((i j : ℕ) → i < n → j < n → p i ≡ true → p j ≡ true → i ≡ j) → howMany n p ≤ 1

@@ -106,6 +106,11 @@ module _ (n : ℕ) (lean : Trees → ℕ → ℕ) (F : Trees) where
   unfoldable pub pointsTo : ℕ → Option ℕ
   pointsTo x = firstOf n (λ y. when (nearer (root x) x y) y)
 
+-- The weights of the pairs of a list together.
+abbrev pub weightsOf : (ℕ → ℕ → ℕ) → List (ℕ × ℕ) → ℕ
+weightsOf weight [] = 0
+weightsOf weight (p ∷ ps) = weight (p .0) (p .1) + weightsOf weight ps
+
 -- The number that orders pairs of equal weight before their states; this paper has none, so 0.
 abbrev pub rest : ℕ → Trees → ℕ × ℕ → ℕ
 rest n F p = 0

@@ -9,7 +9,7 @@ use borrow.Author.Tests.{eq-eqb, ne-eqb}
 use Rattle.paper.specs.Below.{when}
 use Rattle.paper.specs.View.{View, stored}
 use Rattle.paper.proofs.Rising.{Rises, ahead}
-use Rattle.image.proofs.Firsts.{first-nowhere, first-at}
+use Rattle.paper.proofs.Below.{firstOf-nowhere, firstOf-at}
 use Rattle.sweep.specs.Cursors.{Cursor}
 
 module _ (v : View) (s : ℕ) where
@@ -20,14 +20,14 @@ module _ (v : View) (s : ℕ) where
   -- A class that no entry has is not stored.
   stored-nowhere : (c : ℕ) → ((j : ℕ) → j < v .count s → ¬ (v .entryClass s j ≡ c)) → stored v s c ≡ none
   unfolding stored targetFor
-  stored-nowhere c h = first-nowhere (targetFor c) (v .count s) (λ i l. rw (ne-eqb (v .entryClass s i) c (h i l)))
+  stored-nowhere c h = firstOf-nowhere (targetFor c) (v .count s) (λ i l. rw (ne-eqb (v .entryClass s i) c (h i l)))
 
   module _ (up : Rises (v .entryClass s) (v .count s)) where
     -- An entry of the class is what the state stores for it.
     pub stored-entry : (c j : ℕ) → j < v .count s → v .entryClass s j ≡ c → stored v s c ≡ some (v .entryNext s j)
     unfolding stored targetFor
     stored-entry c j h e =
-        first-at (targetFor c) (v .count s) j (v .entryNext s j) h
+        firstOf-at (targetFor c) (v .count s) j (v .entryNext s j) h
         (λ i l. rw (ne-eqb (v .entryClass s i) c (λ q. absurd (omega (arith, ahead (v .entryClass s) (v .count s) up i j l h)))))
         (rw (eq-eqb (v .entryClass s j) c e))
 

@@ -8,7 +8,7 @@ use Rattle.paper.specs.Words.{number16}
 use Rattle.paper.specs.Image.{recordsAt, defaultFrom, default, imageView}
 use Rattle.image.specs.Forms.{numberOf, fallbackFrom}
 use Rattle.image.proofs.Cases.{number-from}
-use Rattle.image.proofs.Begins.{Filled}
+use Rattle.paper.proofs.Filled.{Filled}
 use Rattle.chains.specs.Sweeps.{Falls}
 use Rattle.image.specs.Passed.{Passed}
 

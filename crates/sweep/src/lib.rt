@@ -16,7 +16,7 @@ ghost use Rattle.sweep.specs.Cursors.{Cursors, ownAt, behind};
 ghost use Rattle.sweep.specs.Needless.{repeats};
 
 // The default of each state as a number, 65535 for none.
-fn defaults_of(image: &[u8], n: usize, m: usize) -> [u16; 512]
+pub fn defaults_of(image: &[u8], n: usize, m: usize) -> [u16; 512]
     requires { ⌜ Passed (now image) n (classes (now image)) m ⌝ }
     ensures { λ r. ⌜ Falls (imageView (now (image .entry))) n r ⌝ }
 {

@@ -17,5 +17,8 @@ pub mod Roots
 pub mod Radius
 pub mod Points
 pub mod Edges
+pub mod EdgeSums
 pub mod Depth
 pub mod Defaults
+pub mod Bounds
+pub mod EntriesSum

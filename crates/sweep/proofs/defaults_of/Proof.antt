@@ -7,7 +7,7 @@ use lib.ListN.{length, length-set}
 use borrow.Author.Needs.{needs}
 use Rattle.image.specs.Forms.{numberOf}
 use Rattle.image.specs.declared.Record.{Record}
-use Rattle.image.proofs.Begins.{Filled, fill-more}
+use Rattle.paper.proofs.Filled.{Filled, fill-more}
 use Rattle.sweep.proofs.Defaults.{defaultNumber, records-in, number-read, filled-falls}
 use Rattle.sweep.proofs.defaults_of.Statement.{statement}
 use Rattle.sweep.proofs.defaults_of.Tie as tie

@@ -1,0 +1,68 @@
+-- The counts of a table with its defaults in a list: m, the length of the image, and its records and entries as those of the view.
+use mathlib.Core.Path.{_≡_, sym, ap, ap₂, _∙_}
+use mathlib.Core.List.{List, _++_}
+use Prim.Native.Nat.{ℕ, _*_, _≤_, _<_}
+use native.Mathlib.Nat.{mul-le-mul}
+use native.Mathlib.Omega.{arith}
+use lib.ListN.{length, getD}
+use Rattle.paper.specs.Below.{each, sum}
+use Rattle.paper.specs.Words.{bytes16}
+use Rattle.paper.specs.Table.{classes}
+use Rattle.paper.specs.View.{View}
+use Rattle.paper.specs.Image.{defaultFrom, imageLength}
+use Rattle.paper.specs.Results.{recordBytes, entryBytes}
+use Rattle.paper.proofs.Below.{each-same}
+use Rattle.paper.proofs.Sums.{sum-same, sum-bound, count-le}
+use Rattle.trips.proofs.Spans.{length-each}
+use Rattle.trips.proofs.Labels.{default-number}
+use Rattle.trips.proofs.ImageParts.{total, rowPlace, row-wide}
+use Rattle.trips.proofs.Lengths.{length-of-image}
+use Rattle.tally.specs.Kept.{kept, Counts}
+use Rattle.tally.specs.Owned.{listView}
+use Rattle.build.specs.Pieces.{listedRecord, keptRow}
+use Rattle.build.specs.Measured.{listImage, Measured}
+use Rattle.build.proofs.Rows.{entries-row, entries-count}
+
+-- All entries together are not more than 512 times 256.
+pub counts-few : (t : List ℕ) (n : ℕ) (def counts : List ℕ) → n ≤ 512 → classes t ≤ 256 → Counts t n def counts → sum n (λ s. getD counts s 0) ≤ 131072
+counts-few t n def counts hn hk counted =
+    let few : (s : ℕ) → s < n → getD counts s 0 ≤ classes t = λ s h. omega (arith, counted s h, count-le (classes t) (λ c. kept t s c (defaultFrom (getD def s 0)))) in
+    omega (arith, sum-bound n (classes t) (λ s. getD counts s 0) few, mul-le-mul hn hk)
+
+module _ {t : List ℕ} {n k : ℕ} {def counts : List ℕ} {m : ℕ} (M : Measured t n k def counts m) where
+  -- The view of the table with the defaults of the list.
+  abbrev v : View
+  v = listView t def
+
+  count-is : (s : ℕ) → s < n → getD counts s 0 ≡ v .count s
+  count-is s h = M .counted s h ∙ sym (entries-count t def s)
+
+  -- m is the number of all entries.
+  pub total-are : m ≡ total v
+  total-are = M .total-is ∙ sum-same n (λ s. getD counts s 0) (v .count) count-is ∙ ap (λ (x : ℕ). sum x (v .count)) (M .states-are)
+
+  -- It is not above 512 times 256.
+  pub total-few : m ≤ 131072
+  total-few = omega (arith, M .total-is, counts-few t n def counts (omega (arith, M .states-are, M .accepted .few-states)) (M .accepted .few-classes) (M .counted))
+
+  -- The image is as long as n and m say.
+  pub image-long : length (listImage t def) ≡ imageLength n m
+  image-long = omega (arith, length-of-image t (λ s. defaultFrom (getD def s 0)), total-are, M .states-are)
+
+  -- The records by the two lists are those of the view.
+  pub records-are : each n (listedRecord def counts) ≡ each (v .states) (recordBytes v)
+  unfolding recordBytes
+  records-are =
+      each-same n (listedRecord def counts) (recordBytes v)
+      (λ s h. ap₂ (λ (x y : ℕ). bytes16 x ++ bytes16 y) (sym (default-number (getD def s 0))) (count-is s h))
+      ∙ ap (λ (x : ℕ). each x (recordBytes v)) (M .states-are)
+
+  -- The entries class by class are those of the view.
+  pub entries-are : each n (keptRow t k def) ≡ each (v .states) (entryBytes v)
+  entries-are =
+      ap₂ (λ (x y : ℕ). each x (keptRow t y def)) (M .states-are) (M .classes-are)
+      ∙ each-same (v .states) (keptRow t (classes t) def) (entryBytes v) (λ s h. sym (entries-row t def s))
+
+  -- The entries take 4m bytes.
+  pub length-entries : length (each n (keptRow t k def)) ≡ 4 * m
+  length-entries = omega (arith, ap length entries-are, length-each (entryBytes v) (rowPlace v) (row-wide v) (v .states), total-are)

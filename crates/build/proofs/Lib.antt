@@ -1,0 +1,11 @@
+pub mod Behind
+pub mod Laid
+pub mod Rows
+pub mod Pieces
+pub mod Counted
+pub mod Emitted
+pub mod Same
+pub mod Lists
+pub mod Grounds
+pub mod Listed
+pub mod Chosen

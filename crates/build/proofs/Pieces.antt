@@ -1,0 +1,69 @@
+-- The pieces of an image as they are written: the classes and labels copied from the table, the records, and an entry that is kept or passed.
+use mathlib.Core.Path.{_≡_, refl, sym, ap, _∙_}
+use mathlib.Core.Bool.{Bool, true, false, cond}
+use mathlib.Core.List.{List, [], _++_}
+use Prim.Native.Nat.{ℕ, _+_, _*_, _≤_}
+use native.Mathlib.Omega.{arith}
+use lib.ListN.{length, take, drop, length-append}
+use lib.Seq.{take-at}
+use Rattle.paper.specs.Below.{each, list}
+use Rattle.paper.specs.Words.{bytes16, Bytes}
+use Rattle.paper.specs.Table.{states, classOf, labels, next}
+use Rattle.paper.specs.Image.{defaultFrom}
+use Rattle.paper.specs.Results.{labelBytes}
+use Rattle.trips.proofs.Spans.{Spans, spans-then, length-each}
+use Rattle.trips.proofs.Numbers.{back-bytes, length-bytes}
+use Rattle.trips.proofs.Labels.{back-labels, length-labels}
+use Rattle.words.specs.Placed.{placed}
+use Rattle.words.proofs.Placed.{placed-nothing}
+use Rattle.tally.specs.Kept.{kept}
+use Rattle.build.specs.Pieces.{classesAndLabels, listedRecord, keptEntry}
+
+-- So many bytes from a place on are the part that stands there, if it is so long.
+part-taken : {b part : List ℕ} {x z : ℕ} (w : ℕ) → Spans b x part z → length part ≡ w → take w (drop x b) ≡ part
+part-taken {b} {part} {z} w h e = ap (take w) (h .cut) ∙ take-at part (drop z b) w e
+
+-- The classes and labels take 256 bytes and two for each state.
+pub length-labelled : (t : List ℕ) → length (classesAndLabels t) ≡ 256 + 2 * states t
+unfolding classesAndLabels
+length-labelled t =
+    omega (arith, length-append (list 256 (classOf t)) (labelBytes (states t) (labels t)), length-bytes 256 (classOf t), length-labels (states t) (labels t))
+
+-- They stand behind the first 6 bytes of a table.
+pub labels-copied : (t : List ℕ) (n : ℕ) → Bytes t → n ≡ states t → 262 + 2 * n ≤ length t → take (256 + 2 * n) (drop 6 t) ≡ classesAndLabels t
+unfolding classesAndLabels labels
+labels-copied t n B e h =
+    rw e
+    (part-taken (256 + 2 * states t)
+    (spans-then (back-bytes {b = t} 6 256 (classOf t) (omega arith) (λ x hx. refl)) (back-labels {b = t} 262 (states t) (labels t) B (omega arith) (λ s hs. refl)))
+    (length-labelled t))
+
+-- A record takes 4 bytes.
+pub length-record : (def counts : List ℕ) (s : ℕ) → length (listedRecord def counts s) ≡ 4
+unfolding bytes16
+length-record def counts s = refl
+
+-- So n of them take 4n.
+pub length-records : (def counts : List ℕ) (n : ℕ) → length (each n (listedRecord def counts)) ≡ 4 * n
+length-records def counts n = omega (arith, length-each (listedRecord def counts) (λ i. 4 * i) (λ i. omega (arith, length-record def counts i)) n)
+
+module _ (t : List ℕ) (d s c : ℕ) (b : Bool) (e : b ≡ kept t s c (defaultFrom d)) where
+  -- The entry of a class that is kept.
+  entry-kept : b ≡ true → keptEntry t d s c ≡ bytes16 c ++ bytes16 (next t s c)
+  entry-kept y = ap (λ (b : Bool). cond b (bytes16 c ++ bytes16 (next t s c)) []) (sym e ∙ y)
+
+  -- It takes 4 bytes.
+  pub length-kept : b ≡ true → length (keptEntry t d s c) ≡ 4
+  unfolding bytes16
+  length-kept y = ap length (entry-kept y)
+
+  -- An entry that is kept is placed as class and next state.
+  pub entry-placed : (room now : List ℕ) (at x : ℕ) → b ≡ true → x ≡ next t s c → now ≡ placed room at (bytes16 c ++ bytes16 x)
+      → (at + 4 ≡ at + length (keptEntry t d s c)) × (now ≡ placed room at (keptEntry t d s c))
+  entry-placed room now at x y w q = (omega (arith, length-kept y), rw (entry-kept y) (rw (← w) q))
+
+  -- Of a class that is not kept nothing is placed.
+  pub entry-passed : (room : List ℕ) (at : ℕ) → b ≡ false → (at ≡ at + length (keptEntry t d s c)) × (room ≡ placed room at (keptEntry t d s c))
+  entry-passed room at y =
+      let w : keptEntry t d s c ≡ [] = ap (λ (b : Bool). cond b (bytes16 c ++ bytes16 (next t s c)) []) (sym e ∙ y) in
+      rw w (omega arith, sym (placed-nothing room at))

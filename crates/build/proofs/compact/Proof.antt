@@ -1,0 +1,136 @@
+-- Each ground in its order: the table's, 17, 16; past them the image of the forest's defaults.
+use mathlib.Core.Path.{_≡_, sym, _∙_}
+use mathlib.Core.Bool.{false}
+use denote.Ref.{now}
+use native.Mathlib.Omega.{arith}
+use Rattle.paper.specs.Operations.{judgeTable}
+use Rattle.facts.proofs.TableFacts.{accepted-table}
+use Rattle.chains.specs.Orders.{InRange}
+use Rattle.build.proofs.Lists.{list-depth}
+use Rattle.build.proofs.Chosen.{chosen-range, chosen-ends, compact-judged, compact-deep, compact-fills}
+use Rattle.build.proofs.compact.Statement.{statement}
+use Rattle.build.proofs.compact.Tie as tie
+
+-- The function's entry, from where the table is judged.
+abbrev begun : tie.After-judge-table → tie.Start
+begun c = c .before .before .before
+
+-- Past the table's grounds the table is accepted.
+accepted : (c : tie.Else1) → judgeTable (now (begun (c .before) .args .table)) ≡ 0
+accepted c = sym (c .before .judge-table .ensures) ∙ c .if1 .left
+
+judge-table-requires : tie.Need-judge-table-requires
+judge-table-requires c κs = tt
+
+not-built-requires : tie.Need-not-built-requires
+not-built-requires c κs = tt
+
+returns : tie.Need-returns
+returns c =
+    let judged = c .before .before in
+    let a = begun judged .args in
+    compact-judged (now (a .table)) (a .bound) (now (a .room)) _ _
+    (c .not-built .ensures .0 ∙ judged .judge-table .ensures) (λ e. c .before .if1 .taken (sym (c .not-built .ensures .0) ∙ e)) (c .not-built .ensures .1)
+
+get16-requires : tie.Need-get16-requires
+get16-requires c κs = omega (arith, accepted-table (now (begun (c .before) .args .table)) (accepted c) .long)
+
+cast-n : tie.Need-cast-n
+cast-n c = omega arith
+
+get16-requires-2 : tie.Need-get16-requires-2
+get16-requires-2 c κs = let d = c .before in omega (arith, accepted-table (now (begun (d .before) .args .table)) (accepted d) .long)
+
+cast-k : tie.Need-cast-k
+cast-k c = omega arith
+
+defaults-of-requires : tie.Need-defaults-of-requires
+defaults-of-requires c κs =
+    let d = c .before .before in
+    (accepted-table (now (begun (d .before) .args .table)) (accepted d), c .before .get16 .ensures, c .get162 .ensures)
+
+-- The forest's defaults are in range.
+range : (c : tie.After-defaults-of) → InRange (c .before .before .get16 .result) (c .defaults-of .result)
+range c =
+    let a = begun (c .before .before .before .before) .args in
+    chosen-range (now (a .table)) (a .bound) (c .before .before .get16 .result) (c .defaults-of .result) (c .before .before .get16 .ensures) (c .defaults-of .ensures)
+
+-- No chain of them is endless.
+ends : (c : tie.After-order-of) → c .order-of .result .endless ≡ false
+ends c =
+    let chosen = c .before .before in
+    let read = chosen .before .before in
+    let a = begun (read .before .before) .args in
+    c .order-of .ensures .0 ∙ chosen-ends (now (a .table)) (a .bound) (read .get16 .result) (chosen .defaults-of .result) (read .get16 .ensures) (chosen .defaults-of .ensures)
+
+order-of-requires : tie.Need-order-of-requires
+order-of-requires c κs =
+    let read = c .before .before .before in
+    let d = read .before in
+    (omega (arith, read .get16 .ensures, accepted-table (now (begun (d .before) .args .table)) (accepted d) .few-states), range (c .before))
+
+add-if2 : tie.Need-add-if2
+add-if2 c = omega arith
+
+not-built-requires-2 : tie.Need-not-built-requires-2
+not-built-requires-2 c κs = tt
+
+returns-2 : tie.Need-returns-2
+returns-2 c =
+    let order = c .before .before .before in
+    let chosen = order .before .before in
+    let read = chosen .before .before in
+    let a = begun (read .before .before) .args in
+    compact-deep (now (a .table)) (a .bound) (now (a .room)) _ _ (accepted (read .before)) (read .get16 .result) (chosen .defaults-of .result) (read .get16 .ensures) (chosen .defaults-of .ensures)
+    (order .order-of .result .depth) (order .order-of .ensures .1 (ends order) .0) (c .before .if2 .taken) (c .not-built2 .ensures .0) (c .not-built2 .ensures .1)
+
+image-into-requires : tie.Need-image-into-requires
+image-into-requires c κs =
+    let order = c .before .before .before .before .before .before in
+    let chosen = order .before .before in
+    let read = chosen .before .before in
+    let a = begun (read .before .before) .args in
+    let sorted = order .order-of .ensures .1 (ends order) in (
+      record {
+        accepted = accepted-table (now (a .table)) (accepted (read .before));
+        states-are = read .get16 .ensures;
+        classes-are = chosen .before .get162 .ensures;
+        range = range chosen;
+        first = sorted .1;
+      },
+      list-depth (now (a .table)) (read .get16 .result) (chosen .defaults-of .result) (order .order-of .result .depth) (read .get16 .ensures) (range chosen) (sorted .0),
+    )
+
+same-length : tie.Need-same-length
+same-length c = c .before .room .given
+
+returns-3 : tie.Need-returns-3
+returns-3 c =
+    let image = c .before .before in
+    let tested = image .before .before .before .before .before in
+    let order = tested .before .before in
+    let chosen = order .before .before in
+    let read = chosen .before .before in
+    let a = begun (read .before .before) .args in
+    compact-fills (now (a .table)) (a .bound) (now (a .room)) _ _ (accepted (read .before)) (read .get16 .result) (chosen .defaults-of .result) (read .get16 .ensures) (chosen .defaults-of .ensures)
+    (order .order-of .result .depth) (order .order-of .ensures .1 (ends order) .0) _ (tested .if2 .left) (image .image-into .ensures)
+
+pub compact-spec : {M : Type 1} → statement M
+compact-spec =
+    tie.close
+    (tie.spec
+    judge-table-requires
+    not-built-requires
+    returns
+    get16-requires
+    cast-n
+    get16-requires-2
+    cast-k
+    defaults-of-requires
+    order-of-requires
+    add-if2
+    not-built-requires-2
+    returns-2
+    image-into-requires
+    same-length
+    returns-3)

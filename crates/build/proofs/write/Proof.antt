@@ -1,0 +1,155 @@
+-- Each ground in its order: the table's, 8, 11, 16; past them the image of the defaults listed.
+use mathlib.Core.Path.{_≡_, sym, _∙_}
+use mathlib.Core.Bool.{false}
+use denote.Ref.{now}
+use native.Mathlib.Omega.{arith}
+use Rattle.paper.specs.Operations.{judgeTable}
+use Rattle.facts.proofs.TableFacts.{accepted-table}
+use Rattle.chains.specs.Orders.{InRange}
+use Rattle.build.specs.Values.{listBad}
+use Rattle.build.proofs.Lists.{list-depth}
+use Rattle.build.proofs.Listed.{list-long, values-range, write-judged, write-bad, write-endless, write-fills}
+use Rattle.build.proofs.write.Statement.{statement}
+use Rattle.build.proofs.write.Tie as tie
+
+-- The function's entry, from where the table is judged.
+abbrev begun : tie.After-judge-table → tie.Start
+begun c = c .before .before .before .before
+
+-- Past the table's grounds the table is accepted.
+accepted : (c : tie.Else1) → judgeTable (now (begun (c .before) .args .table)) ≡ 0
+accepted c = sym (c .before .judge-table .ensures) ∙ c .if1 .left
+
+judge-table-requires : tie.Need-judge-table-requires
+judge-table-requires c κs = tt
+
+not-built-requires : tie.Need-not-built-requires
+not-built-requires c κs = tt
+
+returns : tie.Need-returns
+returns c =
+    let judged = c .before .before in
+    let a = begun judged .args in
+    write-judged (now (a .table)) (now (a .defaults)) (now (a .room)) _ _
+    (c .not-built .ensures .0 ∙ judged .judge-table .ensures) (λ e. c .before .if1 .taken (sym (c .not-built .ensures .0) ∙ e)) (c .not-built .ensures .1)
+
+get16-requires : tie.Need-get16-requires
+get16-requires c κs = omega (arith, accepted-table (now (begun (c .before) .args .table)) (accepted c) .long)
+
+cast-n : tie.Need-cast-n
+cast-n c = omega arith
+
+get16-requires-2 : tie.Need-get16-requires-2
+get16-requires-2 c κs = let d = c .before in omega (arith, accepted-table (now (begun (d .before) .args .table)) (accepted d) .long)
+
+cast-k : tie.Need-cast-k
+cast-k c = omega arith
+
+list-bad-requires : tie.Need-list-bad-requires
+list-bad-requires c κs =
+    let read = c .before in
+    let d = read .before in
+    omega (arith, read .get16 .ensures, accepted-table (now (begun (d .before) .args .table)) (accepted d) .few-states)
+
+not-built-requires-2 : tie.Need-not-built-requires-2
+not-built-requires-2 c κs = tt
+
+returns-2 : tie.Need-returns-2
+returns-2 c =
+    let listed = c .before .before in
+    let read = listed .before .before in
+    let a = begun (read .before .before) .args in
+    write-bad (now (a .table)) (now (a .defaults)) (now (a .room)) _ _ (accepted (read .before)) (read .get16 .result) (read .get16 .ensures)
+    (sym (listed .list-bad .ensures) ∙ c .before .if2 .taken) (c .not-built2 .ensures .0) (c .not-built2 .ensures .1)
+
+-- Past ground 8 the list is right.
+right : (c : tie.Else2) → let read = c .before .before .before in listBad (now (begun (read .before .before) .args .defaults)) (read .get16 .result) ≡ false
+right c = sym (c .before .list-bad .ensures) ∙ c .if2 .left
+
+values-of-requires : tie.Need-values-of-requires
+values-of-requires c κs =
+    let read = c .before .before .before in
+    let d = read .before in (
+      omega (arith, read .get16 .ensures, accepted-table (now (begun (d .before) .args .table)) (accepted d) .few-states),
+      list-long (now (begun (d .before) .args .defaults)) (read .get16 .result) (right c),
+    )
+
+-- Its values are in range.
+range : (c : tie.After-values-of) → InRange (c .before .before .before .before .get16 .result) (c .values-of .result)
+range c =
+    let read = c .before .before .before .before in
+    values-range (now (begun (read .before .before) .args .defaults)) (read .get16 .result) (c .values-of .result) (right (c .before)) (c .values-of .ensures)
+
+order-of-requires : tie.Need-order-of-requires
+order-of-requires c κs =
+    let read = c .before .before .before .before .before in
+    let d = read .before in
+    (omega (arith, read .get16 .ensures, accepted-table (now (begun (d .before) .args .table)) (accepted d) .few-states), range (c .before))
+
+not-built-requires-3 : tie.Need-not-built-requires-3
+not-built-requires-3 c κs = tt
+
+returns-3 : tie.Need-returns-3
+returns-3 c =
+    let order = c .before .before in
+    let values = order .before .before in
+    let read = values .before .before .before .before in
+    let a = begun (read .before .before) .args in
+    write-endless (now (a .table)) (now (a .defaults)) (now (a .room)) _ _ (accepted (read .before)) (read .get16 .result) (read .get16 .ensures)
+    (right (values .before)) (values .values-of .result) (values .values-of .ensures)
+    (sym (order .order-of .ensures .0) ∙ c .before .if3 .taken) (c .not-built3 .ensures .0) (c .not-built3 .ensures .1)
+
+image-into-requires : tie.Need-image-into-requires
+image-into-requires c κs =
+    let tested = c .before .before .before .before in
+    let order = tested .before in
+    let values = order .before .before in
+    let read = values .before .before .before .before in
+    let a = begun (read .before .before) .args in
+    let sorted = order .order-of .ensures .1 (tested .if3 .left) in (
+      record {
+        accepted = accepted-table (now (a .table)) (accepted (read .before));
+        states-are = read .get16 .ensures;
+        classes-are = values .before .before .before .get162 .ensures;
+        range = range values;
+        first = sorted .1;
+      },
+      list-depth (now (a .table)) (read .get16 .result) (values .values-of .result) (order .order-of .result .depth) (read .get16 .ensures) (range values) (sorted .0),
+    )
+
+same-length : tie.Need-same-length
+same-length c = c .before .room .given
+
+returns-4 : tie.Need-returns-4
+returns-4 c =
+    let image = c .before .before in
+    let tested = image .before .before .before .before .before in
+    let order = tested .before in
+    let values = order .before .before in
+    let read = values .before .before .before .before in
+    let a = begun (read .before .before) .args in
+    write-fills (now (a .table)) (now (a .defaults)) (now (a .room)) _ _ (accepted (read .before)) (read .get16 .result) (read .get16 .ensures)
+    (right (values .before)) (values .values-of .result) (values .values-of .ensures) _
+    (sym (order .order-of .ensures .0) ∙ tested .if3 .left) (image .image-into .ensures)
+
+pub write-spec : {M : Type 1} → statement M
+write-spec =
+    tie.close
+    (tie.spec
+    judge-table-requires
+    not-built-requires
+    returns
+    get16-requires
+    cast-n
+    get16-requires-2
+    cast-k
+    list-bad-requires
+    not-built-requires-2
+    returns-2
+    values-of-requires
+    order-of-requires
+    not-built-requires-3
+    returns-3
+    image-into-requires
+    same-length
+    returns-4)

@@ -1,0 +1,52 @@
+-- The rows of a table while they are set down in a room.
+use mathlib.Core.Path.{_≡_}
+use mathlib.Core.List.{List}
+use mathlib.Core.Option.{some}
+use Prim.Native.Nat.{ℕ, _+_, _*_, _≤_, _<_}
+use lib.ListN.{length, getD}
+use Rattle.paper.specs.Below.{firstOf, or}
+use Rattle.paper.specs.Words.{number16}
+use Rattle.paper.specs.Table.{tableLength}
+use Rattle.paper.specs.View.{look}
+use Rattle.paper.specs.Image.{states, classes, defaultFrom, imageView}
+use Rattle.facts.proofs.ImageFacts.{AcceptedImage}
+use Rattle.image.specs.Laid.{Begins}
+use Rattle.image.proofs.Rows.{nextFor}
+use Rattle.chains.specs.Sweeps.{Falls}
+use Rattle.expand.specs.Kept.{Kept}
+
+-- Where the row of a state begins in a table of n states and k classes.
+abbrev pub rowAt : ℕ → ℕ → ℕ → ℕ
+rowAt n k s = 262 + 2 * n + 2 * (s * k)
+
+-- No byte of the row of k numbers at `from` is one of the row at `to`.
+abbrev pub Apart : ℕ → ℕ → ℕ → Type 0
+Apart from to k = (i j : ℕ) → i < 2 * k → j < 2 * k → ¬ (from + i ≡ to + j)
+
+-- The first so many numbers of the row at `to` are those that stood in the row at `from`, and nothing else was written.
+pub record RowCopied (old room : List ℕ) (from to count : ℕ) : Type 0 where
+  pub kept : Kept old room to (to + 2 * count)
+  pub numbers : (c : ℕ) → c < count → number16 room (to + 2 * c) ≡ number16 old (from + 2 * c)
+
+-- The first so many entries of a part are put over the row at `at`: each number is what they store for its class, and what it was where they store nothing.
+pub record Overlaid (part old room : List ℕ) (at k count : ℕ) : Type 0 where
+  pub kept : Kept old room at (at + 2 * k)
+  pub numbers : (c : ℕ) → c < k → number16 room (at + 2 * c) ≡ or (firstOf count (nextFor part c)) (number16 old (at + 2 * c))
+
+-- The row of a state that has a default is the row that its default had, and nothing else was written.
+pub record Inherited (def old room : List ℕ) (n k s : ℕ) : Type 0 where
+  pub kept : Kept old room (rowAt n k s) (rowAt n k s + 2 * k)
+  pub numbers : (d : ℕ) → defaultFrom (getD def s 0) ≡ some d → (c : ℕ) → c < k → number16 room (rowAt n k s + 2 * c) ≡ number16 old (rowAt n k d + 2 * c)
+
+-- The row of a state in the room is what its chain gives for each class.
+abbrev pub RowStands : List ℕ → ℕ → ℕ → List ℕ → ℕ → Type 0
+RowStands b n k room s = (c : ℕ) → c < k → number16 room (rowAt n k s + 2 * c) ≡ look (imageView b) s c .target
+
+-- An accepted image with its counts, the begins of its entries and its defaults, beside a room that holds its table.
+pub record Setting (b : List ℕ) (n k : ℕ) (begins def room : List ℕ) : Type 0 where
+  pub accepted : AcceptedImage b
+  pub states-are : n ≡ states b
+  pub classes-are : k ≡ classes b
+  pub begin : Begins b begins
+  pub falls : Falls (imageView b) n def
+  pub fits : tableLength n k ≤ length room

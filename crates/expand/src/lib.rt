@@ -1,0 +1,156 @@
+// Expand: an image into the table that it stands for. The rows are set down in the room itself, that of each state after that of its default.
+ghost use mathlib.Core.Path.{_≡_};
+ghost use mathlib.Core.Option.{some};
+ghost use Prim.Native.Nat.{ℕ, _+_, _*_, _/_, _≤_, _<_};
+ghost use lib.ListN.{length, getD};
+ghost use Rattle.paper.specs.Table.{tableLength};
+ghost use Rattle.paper.specs.Image.{states, classes, defaultFrom, imageView};
+ghost use Rattle.paper.specs.Results.{tableOf};
+ghost use Rattle.paper.specs.Operations.{filled};
+ghost use Rattle.paper.specs.Promises.{Expands};
+ghost use Rattle.facts.proofs.ImageFacts.{AcceptedImage};
+ghost use Rattle.image.specs.Laid.{Row};
+ghost use Rattle.image.specs.Passed.{Passed};
+ghost use Rattle.chains.specs.Orders.{ParentFirst};
+ghost use Rattle.chains.specs.Sweeps.{Falls};
+ghost use Rattle.expand.specs.Kept.{Kept};
+ghost use Rattle.expand.specs.Rows.{rowAt, Apart, RowCopied, Overlaid, Inherited, Setting, RowStands};
+ghost use Rattle.expand.specs.Front.{Fronted};
+
+// Sets down n, k and the start state, the classes and the labels, as they stand in the image.
+fn put_front(image: &[u8], n: usize, room: &mut [u8])
+    requires { ⌜ (268 + 2 * n ≤ length (now image)) × (262 + 2 * n ≤ length (now room)) ⌝ }
+    ensures { λ _. ⌜ Fronted (now (image .entry)) n (now (room .entry)) (now (room .exit)) ⌝ }
+{
+    words::copy(image, 0, 6, room, 0);
+    words::copy(image, 12, 256, room, 6);
+    words::copy(image, 268, 2 * n, room, 262);
+}
+
+// Where the row of a state begins in a table; at n, where the table ends.
+fn row_at(n: usize, k: usize, s: usize) -> usize
+    requires { ⌜ (n ≤ 512) × (k ≤ 256) × (s ≤ n) ⌝ }
+    ensures { λ r. ⌜ r ≡ rowAt n k s ⌝ }
+{
+    262 + 2 * n + 2 * (s * k)
+}
+
+// Copies the k numbers of the row at `from` to the row at `to`.
+fn copy_row(room: &mut [u8], from: usize, to: usize, k: usize)
+    requires { ⌜ (from + 2 * k ≤ length (now room)) × (to + 2 * k ≤ length (now room)) × Apart from to k ⌝ }
+    ensures { λ _. ⌜ RowCopied (now (room .entry)) (now (room .exit)) from to k ⌝ }
+{
+    let mut c = 0;
+    while c < k {
+        let x = words::get16(room, from + 2 * c);
+        words::put16(room, to + 2 * c, x);
+        c += 1;
+    }
+}
+
+// Puts the next state of each entry of a state into the row at `at`, in the place of its class.
+fn put_entries(part: &[u8], room: &mut [u8], at: usize, k: usize)
+    requires { ⌜ Row (now part) k × (at + 2 * k ≤ length (now room)) ⌝ }
+    ensures { λ _. ⌜ Overlaid (now (part .entry)) (now (room .entry)) (now (room .exit)) at k (length (now (part .entry)) / 4) ⌝ }
+{
+    let count = part.len() / 4;
+    let mut j = 0;
+    while j < count {
+        let class = words::get16(part, 4 * j) as usize;
+        let next = words::get16(part, 4 * j + 2);
+        words::put16(room, at + 2 * class, next);
+        j += 1;
+    }
+}
+
+// Copies the row of the default of a state, if it has one, to the row of the state.
+fn copy_default(def: &[u16; 512], n: usize, k: usize, s: usize, room: &mut [u8])
+    requires { ⌜ (n ≤ 512) × (k ≤ 256) × (s < n) × (tableLength n k ≤ length (now room))
+        × ((d : ℕ) → defaultFrom (getD (now def) s 0) ≡ some d → (d < n) × (¬ (d ≡ s))) ⌝ }
+    ensures { λ _. ⌜ Inherited (now (def .entry)) (now (room .entry)) (now (room .exit)) n k s ⌝ }
+{
+    let d = def[s];
+    if d == 65535 {
+        return;
+    }
+    let from = row_at(n, k, d as usize);
+    let to = row_at(n, k, s);
+    copy_row(room, from, to, k);
+}
+
+// Sets down the row of a state, where that of its default stands: the default's row, and the state's own entries over it.
+fn put_row(
+    image: &[u8],
+    n: usize,
+    k: usize,
+    begins: &[u32; 513],
+    def: &[u16; 512],
+    s: usize,
+    room: &mut [u8],
+)
+    requires { ⌜ Setting (now image) n k (now begins) (now def) (now room) × (s < n)
+        × ((d : ℕ) → defaultFrom (getD (now def) s 0) ≡ some d → RowStands (now image) n k (now room) d) ⌝ }
+    ensures { λ _. ⌜ RowStands (now (image .entry)) n k (now (room .exit)) s × Kept (now (room .entry)) (now (room .exit)) (rowAt n k s) (rowAt n k s + 2 * k) ⌝ }
+{
+    copy_default(def, n, k, s, room);
+    put_entries(
+        image::entries_of(image, begins, s),
+        room,
+        row_at(n, k, s),
+        k,
+    );
+}
+
+// Sets down the rows of all states, each after that of its default.
+fn put_rows(
+    image: &[u8],
+    n: usize,
+    k: usize,
+    begins: &[u32; 513],
+    def: &[u16; 512],
+    order: &[u16; 512],
+    room: &mut [u8],
+)
+    requires { ⌜ Setting (now image) n k (now begins) (now def) (now room) × ParentFirst n (now def) (now order) ⌝ }
+    ensures { λ _. ⌜ ((s : ℕ) → s < n → RowStands (now (image .entry)) n k (now (room .exit)) s)
+        × Kept (now (room .entry)) (now (room .exit)) (262 + 2 * n) (tableLength n k) ⌝ }
+{
+    for i in 0..n {
+        let s = order[i] as usize;
+        put_row(image, n, k, begins, def, s, room);
+    }
+}
+
+// Fills the first bytes of the room with the table of an accepted image.
+fn fill(image: &[u8], n: usize, k: usize, room: &mut [u8])
+    requires { ⌜ AcceptedImage (now image) × (n ≡ states (now image)) × (k ≡ classes (now image)) × (tableLength n k ≤ length (now room)) ⌝ }
+    ensures { λ _. ⌜ now (room .exit) ≡ filled (tableOf (now (image .entry))) (now (room .entry)) ⌝ }
+{
+    let m = words::get32(image, 8) as usize;
+    let begins = image::begins_of(image, n, m);
+    let def = sweep::defaults_of(image, n, m);
+    let chains = chains::order_of(&def, n);
+    put_front(image, n, room);
+    put_rows(image, n, k, &begins, &def, &chains.order, room);
+}
+
+// Expand: image into table. Every row is copied once and every entry put once, so the steps are in proportion to n k + m.
+pub fn expand(image: &[u8], room: &mut [u8]) -> answers::Built
+    ensures { λ r. ⌜ Expands (now (image .entry)) (now (room .entry)) (r .refused) (r .length) (now (room .exit)) ⌝ }
+{
+    let number = judge::judge_image(image);
+    if number != 0 {
+        return answers::not_built(number);
+    }
+    let n = words::get16(image, 0) as usize;
+    let k = words::get16(image, 2) as usize;
+    let length = row_at(n, k, n);
+    if room.len() < length {
+        return answers::not_built(16);
+    }
+    fill(image, n, k, room);
+    answers::Built {
+        refused: 0,
+        length: length as u32,
+    }
+}

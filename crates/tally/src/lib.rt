@@ -1,0 +1,127 @@
+// What the image of a table with defaults will hold: the entries that each state keeps, and the worst.
+ghost use mathlib.Core.Path.{_≡_};
+ghost use Prim.Native.Nat.{_≤_, _<_, max};
+ghost use lib.ListN.{getD};
+ghost use Rattle.paper.specs.Below.{sum};
+ghost use Rattle.paper.specs.Table.{classOf};
+ghost use Rattle.paper.specs.View.{worstOf};
+ghost use Rattle.paper.specs.Image.{defaultFrom};
+ghost use Rattle.table.specs.Counted.{Counted};
+ghost use Rattle.chains.specs.Orders.{InRange};
+ghost use Rattle.tally.specs.Kept.{kept, keptCount, Counts};
+ghost use Rattle.tally.specs.Owned.{listView, ownNumber, Owns, mostHops, Ordered};
+
+// Whether state s, whose default is d or which has none, keeps class c as an entry.
+pub fn keeps(t: &[u8], n: usize, k: usize, d: u16, s: usize, c: usize) -> bool
+    requires { ⌜ Counted (now t) n k × (s < n) × (c < k) × (¬ (d ≡ 65535) → d < n) ⌝ }
+    ensures { λ r. ⌜ r ≡ kept (now (t .entry)) s c (defaultFrom d) ⌝ }
+{
+    if d == 65535 {
+        return true;
+    }
+    table::next_state(t, n, k, s, c) != table::next_state(t, n, k, d as usize, c)
+}
+
+// How many classes a state keeps.
+fn count_of(t: &[u8], n: usize, k: usize, d: u16, s: usize) -> u16
+    requires { ⌜ Counted (now t) n k × (s < n) × (¬ (d ≡ 65535) → d < n) ⌝ }
+    ensures { λ r. ⌜ r ≡ keptCount (now (t .entry)) k s d ⌝ }
+{
+    let mut count: u16 = 0;
+    for c in 0..k {
+        if keeps(t, n, k, d, s, c) {
+            count += 1;
+        }
+    }
+    count
+}
+
+// How many classes each state keeps.
+pub fn counts_of(t: &[u8], n: usize, k: usize, def: &[u16; 512]) -> [u16; 512]
+    requires { ⌜ Counted (now t) n k × InRange n (now def) ⌝ }
+    ensures { λ r. ⌜ Counts (now (t .entry)) n (now (def .entry)) r ⌝ }
+{
+    let mut counts = [0u16; 512];
+    for s in 0..n {
+        let d = def[s];
+        let count = count_of(t, n, k, d, s);
+        counts[s] = count;
+    }
+    counts
+}
+
+// A number of 16 bits in 32.
+fn wide(x: u16) -> u32
+    ensures { λ r. ⌜ (r ≡ x) × (r < 65536) ⌝ }
+{
+    x as u32
+}
+
+// All of the first n numbers together.
+pub fn sum_of(list: &[u16; 512], n: usize) -> u32
+    requires { ⌜ n ≤ 512 ⌝ }
+    ensures { λ r. ⌜ r ≡ sum n (λ s. getD (now (list .entry)) s 0) ⌝ }
+{
+    let mut all: u32 = 0;
+    for s in 0..n {
+        all += wide(list[s]);
+    }
+    all
+}
+
+// What state s, whose default is d or which has none, stores for class c: its next state, or 65535 for nothing stored here.
+fn own_at(t: &[u8], n: usize, k: usize, d: u16, s: usize, c: usize) -> u16
+    requires { ⌜ Counted (now t) n k × (s < n) × (c < k) × (¬ (d ≡ 65535) → d < n) ⌝ }
+    ensures { λ r. ⌜ r ≡ ownNumber (now (t .entry)) c s d ⌝ }
+{
+    if keeps(t, n, k, d, s, c) {
+        return table::next_state(t, n, k, s, c);
+    }
+    65535
+}
+
+// What each state stores for class c.
+fn own_of(t: &[u8], n: usize, k: usize, def: &[u16; 512], c: usize) -> [u16; 512]
+    requires { ⌜ Counted (now t) n k × InRange n (now def) × (c < k) ⌝ }
+    ensures { λ r. ⌜ Owns (now (t .entry)) n (now (def .entry)) c r ⌝ }
+{
+    let mut own = [0u16; 512];
+    for s in 0..n {
+        let d = def[s];
+        let x = own_at(t, n, k, d, s, c);
+        own[s] = x;
+    }
+    own
+}
+
+// The most hops that a state takes for class c, and at least `least`.
+fn most_hops(
+    t: &[u8],
+    n: usize,
+    k: usize,
+    def: &[u16; 512],
+    order: &[u16; 512],
+    c: usize,
+    least: u16,
+) -> u16
+    requires { ⌜ Ordered (now t) n k (now def) (now order) × (c < k) ⌝ }
+    ensures { λ r. ⌜ r ≡ max least (mostHops (listView (now (t .entry)) (now (def .entry))) c) ⌝ }
+{
+    let own = own_of(t, n, k, def, c);
+    let mut to = [0u16; 512];
+    let mut hop = [0u16; 512];
+    chains::resolve(def, order, n, &own, &mut to, &mut hop);
+    chains::largest(&hop, n, least)
+}
+
+// The worst: the most hops that a state takes for a class. Each state of each class is looked at once, so this takes steps in proportion to n k.
+pub fn worst_of(t: &[u8], n: usize, k: usize, def: &[u16; 512], order: &[u16; 512]) -> u16
+    requires { ⌜ Ordered (now t) n k (now def) (now order) ⌝ }
+    ensures { λ r. ⌜ r ≡ worstOf (listView (now (t .entry)) (now (def .entry))) (classOf (now (t .entry))) ⌝ }
+{
+    let mut worst: u16 = 0;
+    for c in 0..k {
+        worst = most_hops(t, n, k, def, order, c, worst);
+    }
+    worst
+}

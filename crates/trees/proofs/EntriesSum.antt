@@ -1,0 +1,122 @@
+-- Stored entries, plus defaults, plus the weights of the pairs added, equal n times k.
+use mathlib.Core.Path.{_≡_, refl, sym, ap, _∙_}
+use mathlib.Core.Bool.{true}
+use mathlib.Core.Logic.{inl, inr}
+use mathlib.Core.List.{List}
+use mathlib.Core.Option.{Option, none, some}
+use Prim.Native.Nat.{ℕ, _+_, _-_, _*_, _≤_, _<_}
+use native.Mathlib.Omega.{arith}
+use native.Mathlib.Decide.{ℕ-discrete}
+use lib.Dec.{eqb}
+use lib.ListN.{length}
+use borrow.Author.Tests.{eq-eqb, ne-eqb}
+use Rattle.paper.specs.Below.{sum, howMany, bit, given}
+use Rattle.paper.specs.Table.{states, classes, next}
+use Rattle.paper.specs.Results.{differs, entriesOf}
+use Rattle.paper.specs.Forest.{Trees, weight, singles, joined, weightsOf, lean, forest, defaults}
+use Rattle.paper.proofs.Sums.{sum-same, sum-add, sum-constant, count-same, count-both, count-all, length-passed}
+use Rattle.trees.proofs.Points.{pointsTo-some}
+use Rattle.trees.proofs.Greedy.{Keeps, forest-keeps}
+use Rattle.trees.proofs.Grown.{Grown, singles-grown, added-grown}
+use Rattle.trees.proofs.Edges.{Neighbours, joined-neighbours-other}
+use Rattle.trees.proofs.EdgeSums.{aroundSum, around-singles, around-joined, around-falls, defaultValue, fallSum}
+
+-- Two numbers are equal either way round.
+equal-turned : (a b : ℕ) → eqb a b ≡ eqb b a
+equal-turned a b =
+    elim (ℕ-discrete a b) [
+      | yes e ↦ eq-eqb a b e ∙ sym (eq-eqb b a (sym e))
+      | no n ↦ ne-eqb a b n ∙ sym (ne-eqb b a (λ e. n (sym e)))
+    ]
+
+module _ (t : List ℕ) where
+  -- The weight of a pair is the same from both states.
+  weight-turned : (u v : ℕ) → weight t u v ≡ weight t v u
+  unfolding weight
+  weight-turned u v =
+      ap (λ (x : ℕ). x - 1) (count-same (classes t) (λ c. eqb (next t u c) (next t v c)) (λ c. eqb (next t v c) (next t u c)) (λ c h. equal-turned (next t u c) (next t v c)))
+
+  module _ (D : ℕ) where
+    -- Grown trees in which neighbours have weight, and whose neighbours weigh twice what the pairs added do.
+    record Weighed (F : Trees) : Type 0 where
+      grown : Grown (states t) D F
+      heavy : (x y : ℕ) → Neighbours F x y → 1 ≤ weight t x y
+      twice : aroundSum (states t) (weight t) F ≡ 2 * weightsOf (weight t) (F .added)
+
+    -- Single states are such.
+    singles-weighed : Weighed singles
+    unfolding singles
+    singles-weighed =
+        record {
+          grown = singles-grown (states t) D;
+          heavy = λ x y N. absurd (omega (arith, N .1));
+          twice = around-singles (states t) (weight t);
+        }
+
+    -- One pair more.
+    twice-more : (F : Trees) (u v : ℕ) → aroundSum (states t) (weight t) F ≡ 2 * weightsOf (weight t) (F .added)
+        → aroundSum (states t) (weight t) F + 2 * weight t u v ≡ 2 * weightsOf (weight t) (joined F u v .added)
+    unfolding joined
+    twice-more F u v e = omega (arith, e)
+
+    -- Each pair added keeps that.
+    added-weighed : Keeps (states t) D (weight t) Weighed
+    added-weighed F u v W A =
+        let M = W .grown .metric in
+        let ub : u < states t = omega (arith, A .rising, A .inside) in
+        record {
+          grown = added-grown (states t) D (weight t) F u v (W .grown) A;
+          heavy = λ x y N. elim (joined-neighbours-other F u v (A .apart) M x y N) [
+            | inl k ↦ W .heavy x y k
+            | inr c ↦ elim c [
+              | inl q ↦ rw (q .0, q .1) (A .heavy)
+              | inr q ↦ rw (q .0, q .1, weight-turned v u) (A .heavy)
+            ]
+          ];
+          twice = around-joined (states t) (weight t) weight-turned F u v (A .apart) M ub (A .inside) ∙ twice-more F u v (W .twice);
+        }
+
+    -- So the forest is such.
+    forest-weighed : Weighed (forest t D)
+    forest-weighed = forest-keeps t D Weighed added-weighed singles-weighed
+
+    -- The weights of the states with their defaults are those of the pairs added.
+    falls-added : fallSum (states t) (weight t) (defaults t D) ≡ weightsOf (weight t) (forest t D .added)
+    unfolding defaults
+    falls-added =
+        let W = forest-weighed in
+        let n = states t in
+        omega (arith, W .twice, around-falls n (weight t) weight-turned (lean n) (forest t D) (W .grown .metric) (W .grown .inside))
+
+    -- A default shares classes with its state, so there is a weight.
+    default-heavy : (s d : ℕ) → defaults t D s ≡ some d → 1 ≤ weight t s d
+    unfolding defaults
+    default-heavy s d e =
+        let (_, N) = pointsTo-some (states t) (lean (states t)) (forest t D) s d e in
+        forest-weighed .heavy s d (N .mate, N .step)
+
+    -- The classes in which two states differ, one, and their weight, make k.
+    differ-sum : (s d : ℕ) → 1 ≤ weight t s d → howMany (classes t) (λ c. differs t (defaults t D) s c (some d)) + (1 + weight t s d) ≡ classes t
+    unfolding weight
+    differ-sum s d h = omega (arith, h, count-both (classes t) (λ c. eqb (next t s c) (next t d c)))
+
+    -- What a state stores, whether it has a default, and the weight of the two make k.
+    state-sum : (s : ℕ) → length (entriesOf t (defaults t D) s) + (bit (given (defaults t D s)) + defaultValue (defaults t D s) (weight t s)) ≡ classes t
+    unfolding entriesOf
+    state-sum s = ap (λ (l : ℕ). l + (bit (given (defaults t D s)) + defaultValue (defaults t D s) (weight t s))) (length-passed (classes t) (λ c. differs t (defaults t D) s c (defaults t D s)) (λ c. (c, next t s c))) ∙ go (defaults t D s) refl
+      where
+        go : (o : Option ℕ) → defaults t D s ≡ o → howMany (classes t) (λ c. differs t (defaults t D) s c o) + (bit (given o) + defaultValue o (weight t s)) ≡ classes t
+        go none q = omega (arith, count-all (classes t) (λ c. true) (λ c h. refl))
+        go (some d) q = differ-sum s d (default-heavy s d q)
+
+-- Stored entries, plus defaults, plus the weights of the pairs added, equal n times k.
+pub entries-sum : (t : List ℕ) (D : ℕ)
+    → sum (states t) (λ s. length (entriesOf t (defaults t D) s)) + (howMany (states t) (λ s. given (defaults t D s)) + weightsOf (weight t) (forest t D .added)) ≡ states t * classes t
+entries-sum t D =
+    let n = states t in
+    let f = defaults t D in
+    let stored : ℕ → ℕ = λ s. length (entriesOf t f s) in
+    let used : ℕ → ℕ = λ s. bit (given (f s)) in
+    let shared : ℕ → ℕ = λ s. defaultValue (f s) (weight t s) in
+    let all : sum n (λ s. stored s + (used s + shared s)) ≡ n * classes t = sum-same n (λ s. stored s + (used s + shared s)) (λ s. classes t) (λ s h. state-sum t D s) ∙ sum-constant n (classes t) in
+    omega (arith, all, sum-add n stored (λ s. used s + shared s), sum-add n used shared, falls-added t D)

@@ -1,0 +1,190 @@
+/* Write, expand and compact against the independent reading: random tables and lists, valid and damaged, rooms exact, one short, longer and empty.
+ * Rooms end at a guard page; every byte of every room and every lent byte is compared. */
+#include <stdio.h>
+#include <string.h>
+
+#include "kamordast.h"
+#include "reference/reference.h"
+#include "support.h"
+
+static guarded lent_input, lent_list, lent_room;
+static uint8_t table[LONGEST_TABLE], image[LONGEST_IMAGE], wanted[LONGEST_IMAGE + 64], defaults[1100];
+static uint64_t cases;
+static uint64_t given[18];
+
+enum operation { WRITE, EXPAND, COMPACT };
+
+/* Runs an operation in guarded buffers with a room of 170s and compares the answer and every byte. Answers the result's length. */
+static size_t compared(enum operation o, const uint8_t *input, size_t length, size_t list_length, uint32_t bound, size_t room_length) {
+    uint8_t *in = at_end(&lent_input, length), *list = at_end(&lent_list, list_length), *room = at_end(&lent_room, room_length);
+    memcpy(in, input, length);
+    memcpy(list, defaults, list_length);
+    memset(room, 170, room_length);
+    memset(wanted, 170, room_length);
+    reference_built right;
+    kamordast_built answer;
+    switch (o) {
+    case WRITE:
+        right = reference_write(input, length, defaults, list_length, wanted, room_length);
+        answer = kamordast_write(in, length, list, list_length, room, room_length);
+        break;
+    case EXPAND:
+        right = reference_expand(input, length, wanted, room_length);
+        answer = kamordast_expand(in, length, room, room_length);
+        break;
+    default:
+        right = reference_compact(input, length, bound, wanted, room_length);
+        answer = kamordast_compact(in, length, (uint16_t)bound, room, room_length);
+    }
+    if (answer.refused != right.refused) {
+        printf("operation %d: %u for %u: ", o, answer.refused, right.refused);
+        fail("the number differs", cases);
+    }
+    if (answer.length != right.length) fail("the length differs", cases);
+    if (memcmp(room, wanted, room_length)) fail("the room differs", cases);
+    if (memcmp(in, input, length) || memcmp(list, defaults, list_length)) fail("a lent byte was changed", cases);
+    given[right.refused]++;
+    cases++;
+    return right.length;
+}
+
+/* The same with rooms around the result's length. */
+static size_t with_rooms(enum operation o, const uint8_t *input, size_t length, size_t list_length, uint32_t bound) {
+    size_t most = o == EXPAND ? LONGEST_TABLE : LONGEST_IMAGE, result = compared(o, input, length, list_length, bound, most);
+    compared(o, input, length, list_length, bound, 0);
+    if (result) {
+        compared(o, input, length, list_length, bound, result);
+        compared(o, input, length, list_length, bound, result - 1);
+        compared(o, input, length, list_length, bound, result + 1 + below(40));
+        compared(o, input, length, list_length, bound, below((uint32_t)result));
+    }
+    return result;
+}
+
+static uint32_t some_size(uint32_t most) {
+    switch (below(8)) {
+    case 0: return 1;
+    case 1: return 1 + below(most);
+    default: return 1 + below(most < 12 ? most : 12);
+    }
+}
+
+/* Write, the way back by expand, and the way forth again. */
+static void round_trips(int rounds) {
+    while (rounds--) {
+        size_t length = make_table(table, rounds ? some_size(512) : 512, rounds ? some_size(256) : 256, below(257));
+        uint32_t n = number16(table, 0);
+        make_defaults(defaults, n, below(257));
+        size_t result = with_rooms(WRITE, table, length, 2 * (size_t)n, 0);
+        if (!result) fail("a table as it should be", cases);
+        reference_built written = reference_write(table, length, defaults, 2 * (size_t)n, image, sizeof image);
+        with_rooms(EXPAND, image, written.length, 0, 0);
+        kamordast_built back = kamordast_expand(image, written.length, wanted, sizeof wanted);
+        if (back.refused || back.length != length || memcmp(wanted, table, length)) fail("expand does not give back the table", cases);
+        /* Damage in the list: values, a circle, the length. */
+        size_t list_length = 2 * (size_t)n;
+        switch (below(4)) {
+        case 0: set16(defaults, 2 * below(n), below(3) ? n + below(3) : 65534); break;
+        case 1: {
+            uint32_t s = below(n);
+            set16(defaults, 2 * s, below(2) ? s : below(n));
+            break;
+        }
+        case 2: list_length = below(2) ? list_length + 1 + below(3) : below((uint32_t)list_length); break;
+        default:
+            for (uint32_t s = 0; s < n; s++) set16(defaults, 2 * s, below(n));
+        }
+        compared(WRITE, table, length, list_length, 0, below(2) ? LONGEST_IMAGE : 0);
+        /* Damage in the table and in the image. */
+        table[below((uint32_t)length)] = (uint8_t)below(256);
+        compared(WRITE, table, below(4) ? length : below((uint32_t)length), 2 * (size_t)n, 0, below(2) ? LONGEST_IMAGE : 0);
+        image[below(written.length)] = (uint8_t)below(256);
+        if (below(2)) mend_check_word(image, written.length);
+        compared(EXPAND, image, below(4) ? written.length : below(written.length), 0, 0, below(2) ? LONGEST_TABLE : 0);
+    }
+}
+
+static void rows_of(uint32_t n, uint32_t k, const uint16_t *rows) {
+    set16(table, 0, n);
+    set16(table, 2, k);
+    set16(table, 4, 0);
+    memset(table + 6, 0, 256);
+    for (uint32_t c = 1; c < k; c++) table[6 + 96 + c] = (uint8_t)c;
+    memset(table + 262, 0, 2 * n);
+    for (uint32_t i = 0; i < n * k; i++) set16(table, 262 + 2 * n + 2 * i, rows[i]);
+}
+
+static void expect_image(uint32_t length, uint32_t entries, uint32_t depth, uint32_t worst, const char *name) {
+    if (number32(wanted, 8) != entries || number16(wanted, 6) != depth || number16(wanted, length - 4) != worst || number32(wanted, length - 8) != length) fail(name, cases);
+}
+
+/* The paper's own tables. */
+static void papers_cases(void) {
+    static const uint16_t t[] = {0, 1, 0, 0, 1, 2, 0, 1, 3, 0, 1, 0}, three[] = {0, 0, 0, 1, 1, 1};
+    rows_of(4, 3, t);
+    set16(table, 266, 7);
+    set16(table, 268, 9);
+    static const uint32_t lengths[] = {352, 332, 324, 324}, entries[] = {12, 7, 5, 5}, deep[] = {0, 1, 1, 1};
+    for (uint32_t bound = 0; bound < 4; bound++) {
+        if (compared(COMPACT, table, 294, 0, bound, lengths[bound]) != lengths[bound]) fail("T's length", bound);
+        expect_image(lengths[bound], entries[bound], deep[bound], deep[bound], "T's numbers");
+    }
+    for (uint32_t s = 0; s < 4; s++) set16(defaults, 2 * s, s < 3 ? 3 : 65535);
+    if (compared(WRITE, table, 294, 8, 0, 324) != 324) fail("T written with 0, 1 and 2 to 3", 0);
+    expect_image(324, 5, 1, 1, "T written with 0, 1 and 2 to 3");
+    set16(defaults, 2, 1);
+    compared(WRITE, table, 294, 8, 0, 324);
+    rows_of(3, 2, three);
+    table[6 + 97] = 0;
+    table[6 + 98] = 1;
+    set16(defaults, 0, 65535);
+    set16(defaults, 2, 0);
+    set16(defaults, 4, 1);
+    if (compared(WRITE, table, 280, 6, 0, 314) != 314) fail("the three states", 0);
+    expect_image(314, 4, 2, 1, "the three states");
+    for (uint32_t bound = 0; bound < 65536; bound += bound < 5 ? 1 : 13106)
+        if (compared(COMPACT, table, 280, 0, bound, 322) != 322) fail("the three states with any D", bound);
+    static const uint16_t eight[24] = {0};
+    rows_of(8, 3, eight);
+    if (compared(COMPACT, table, 262 + 16 + 48, 0, 2, 340) != 340) fail("eight equal rows", 0);
+    expect_image(340, 3, 1, 1, "eight equal rows");
+    /* Figure 4.1 of document 000: with D 3 and more 6 entries and 5 defaults. */
+    static const uint16_t figure[] = {1, 2, 3, 0, 1, 2, 3, 4, 1, 2, 3, 4, 1, 5, 3, 4, 1, 2, 3, 0, 1, 2, 3, 4};
+    static const uint32_t cost[] = {24, 16, 13, 11};
+    rows_of(6, 4, figure);
+    for (uint32_t bound = 0; bound < 8; bound++) {
+        size_t length = compared(COMPACT, table, 262 + 12 + 48, 0, bound, 500);
+        uint32_t used = 0;
+        for (uint32_t s = 0; s < 6; s++) used += number16(wanted, length - 12 - 4 * number32(wanted, 8) - 24 + 4 * s) != 65535;
+        if (number32(wanted, 8) + used != cost[bound < 3 ? bound : 3]) fail("figure 4.1", bound);
+    }
+}
+
+/* Tables with many equal rows, at the bounds where the forest changes. */
+static void forests(int rounds) {
+    while (rounds--) {
+        uint32_t n = 1 + below(rounds % 50 ? 24 : 60), k = 1 + below(9);
+        size_t length = make_table(table, n, k, 128 + below(129));
+        uint32_t bounds[] = {0, 1, 2, 3, 4, 7, n - 1, 65535};
+        for (size_t i = 0; i < sizeof bounds / sizeof *bounds; i++)
+            if (i == 7 - (uint32_t)rounds % 8) with_rooms(COMPACT, table, length, 0, bounds[i]);
+            else compared(COMPACT, table, length, 0, bounds[i], LONGEST_IMAGE);
+        table[below((uint32_t)length)] = (uint8_t)below(256);
+        compared(COMPACT, table, length, 0, below(8), below(2) ? LONGEST_IMAGE : 0);
+    }
+}
+
+int main(void) {
+    lent_input = guard(LONGEST_IMAGE);
+    lent_list = guard(1100);
+    lent_room = guard(LONGEST_IMAGE + 64);
+    seed(4);
+    papers_cases();
+    round_trips(2200);
+    forests(1000);
+    printf("building: %llu cases agree\n  given  ", (unsigned long long)cases);
+    for (int r = 0; r < 18; r++)
+        if (given[r]) printf(" %d:%llu", r, (unsigned long long)given[r]);
+    printf("\n");
+    return 0;
+}
