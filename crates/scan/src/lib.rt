@@ -65,26 +65,6 @@ pub fn take(
     taken.label
 }
 
-// The same on a running scan by value, which is lent for one byte.
-fn taken_one(
-    run: Run,
-    image: &[u8],
-    begins: &[u32; 513],
-    records: usize,
-    k: usize,
-    byte: u8,
-) -> Taken
-    requires { ⌜ Ready (now image) (now begins) records k × Small (now image) run ⌝ }
-    ensures { λ t. ⌜ t ≡ takenOf (now (image .entry)) run byte ⌝ }
-{
-    let mut lent = run;
-    let label = take(&mut lent, image, begins, records, k, byte);
-    Taken {
-        run: lent,
-        label: label,
-    }
-}
-
 // Writes one report: the byte's offset (32 bits) and the label (16 bits).
 fn put_report(room: &mut [u8], at: usize, offset: u32, label: u16)
     requires { ⌜ at + 6 ≤ length (now room) ⌝ }
@@ -115,9 +95,10 @@ pub fn scan_accepted(
     };
     let mut i = 0;
     while i < payload.len() {
-        let taken = taken_one(run, image, begins, records, k, payload[i]);
+        let taken = stepped(run, image, begins, records, k, payload[i]);
         let label = taken.label;
         let next = taken.run;
+        let mut count = run.reports;
         if label != 0 {
             let reports = run.reports as usize;
             if most <= reports {
@@ -130,8 +111,13 @@ pub fn scan_accepted(
                 };
             }
             put_report(room, 6 * reports, i as u32, label);
+            count = next.reports;
         }
-        run = next;
+        run = Run {
+            state: next.state,
+            hops: next.hops,
+            reports: count,
+        };
         i += 1;
     }
     answers::Scanned {

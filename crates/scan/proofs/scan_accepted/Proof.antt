@@ -33,20 +33,20 @@ loop-holds c =
     let t = c .before .before .before in
     going-start (t .args .image .now) (length (t .args .room .now) / 6) (t .args .state) (t .args .payload .now) (t .args .room .now) (t .pre .1)
 
-shared-slice-read-taken-one : tie.Need-shared-slice-read-taken-one Inv-loop μ-loop
-shared-slice-read-taken-one c = search needs
+shared-slice-read-stepped : tie.Need-shared-slice-read-stepped Inv-loop μ-loop
+shared-slice-read-stepped c = search needs
 
-taken-one-requires : tie.Need-taken-one-requires Inv-loop μ-loop
-taken-one-requires c κs = let l = c .before .before in (start l .pre .0, going-small (l .loop .inv) (start l .pre .2))
+stepped-requires : tie.Need-stepped-requires Inv-loop μ-loop
+stepped-requires c κs = let l = c .before .before in (start l .pre .0, going-small (l .loop .inv) (start l .pre .2))
 
 cast-reports : tie.Need-cast-reports Inv-loop μ-loop
 cast-reports c = search needs
 
-cast-t21 : tie.Need-cast-t21 Inv-loop μ-loop
-cast-t21 c = let l = c .before .before .before .before .before .before .before in search (needs, l .loop .inv .within, start l .pre .2)
-
 cast-t22 : tie.Need-cast-t22 Inv-loop μ-loop
-cast-t22 c = search needs
+cast-t22 c = let l = c .before .before .before .before .before .before .before in search (needs, l .loop .inv .within, start l .pre .2)
+
+cast-t23 : tie.Need-cast-t23 Inv-loop μ-loop
+cast-t23 c = search needs
 
 same-length : tie.Need-same-length Inv-loop μ-loop
 same-length c = let l = c .before .before .before .before .before .before .before .before in going-length (l .loop .inv) (capacity l)
@@ -58,7 +58,7 @@ returns c =
     let call = loud .before .before in
     let turn = call .before .before in
     let l = turn .before in
-    going-answers (l .loop .inv) (going-full (l .loop .inv) (turn .loop-test .taken) (call .taken-one .result) (call .taken-one .ensures) (loud .if1 .taken) (full .if2 .taken))
+    going-answers (l .loop .inv) (going-full (l .loop .inv) (turn .loop-test .taken) (call .stepped .result) (call .stepped .ensures) (loud .if1 .taken) (full .if2 .taken))
 
 mul-put-report : tie.Need-mul-put-report Inv-loop μ-loop
 mul-put-report c = search needs
@@ -93,18 +93,18 @@ loop-again c =
     let call = c .before .before in
     let turn = call .before .before in
     let l = turn .before in
-    let t = call .taken-one .result in
+    let t = call .stepped .result in
     let h = turn .loop-test .taken in
     ⊎-elim
-    (λ w. going-loud (l .loop .inv) h t (call .taken-one .ensures) (reached (call .before)) (w .0 .taken) (w .2 .left) (capacity l) (c .if1 .room) (w .7 ∙ w .4 .ensures))
-    (λ w. rw (w .1) (going-quiet (l .loop .inv) h t (call .taken-one .ensures) (reached (call .before)) (w .0 .left)))
+    (λ w. going-loud (l .loop .inv) h t (call .stepped .ensures) (reached (call .before)) (w .0 .taken) (w .2 .left) (capacity l) (c .if1 .room) (w .7 ∙ w .4 .ensures) (c .if1 .count) (w .8))
+    (λ w. rw (w .1) (going-quiet (l .loop .inv) h t (call .stepped .ensures) (reached (call .before)) (w .0 .left) (c .if1 .count) (w .2)))
     (c .if1 .came)
 
-cast-t28 : tie.Need-cast-t28 Inv-loop μ-loop
-cast-t28 c = let l = c .before in search (needs, l .loop .inv .within, start l .pre .2)
-
 cast-t29 : tie.Need-cast-t29 Inv-loop μ-loop
-cast-t29 c = search needs
+cast-t29 c = let l = c .before in search (needs, l .loop .inv .within, start l .pre .2)
+
+cast-t30 : tie.Need-cast-t30 Inv-loop μ-loop
+cast-t30 c = search needs
 
 same-length-2 : tie.Need-same-length-2 Inv-loop μ-loop
 same-length-2 c = let l = c .before .before in going-length (l .loop .inv) (capacity l)
@@ -119,11 +119,11 @@ scan-accepted-spec =
     Inv-loop
     μ-loop
     loop-holds
-    shared-slice-read-taken-one
-    taken-one-requires
+    shared-slice-read-stepped
+    stepped-requires
     cast-reports
-    cast-t21
     cast-t22
+    cast-t23
     same-length
     returns
     mul-put-report
@@ -132,7 +132,7 @@ scan-accepted-spec =
     add-i
     loop-less
     loop-again
-    cast-t28
     cast-t29
+    cast-t30
     same-length-2
     returns-2)

@@ -1,0 +1,70 @@
+/* The bounded greedy forest in plain C, the algorithm of crate `forest` without its proofs: weights kept once, parents turned at each joining. */
+#include "plain.h"
+
+#include <string.h>
+
+typedef struct {
+    uint16_t d[512], parent[512], tree[512];
+} joined_trees;
+
+static uint8_t weights[512 * 512];
+
+/* Turns the parents from a state to its root, so that the state is the root. */
+static void turn(uint16_t *parent, size_t u) {
+    size_t back = u, at = u;
+    for (;;) {
+        size_t next = parent[at];
+        parent[at] = (uint16_t)back;
+        if (next == at) return;
+        back = at;
+        at = next;
+    }
+}
+
+static uint16_t steps(const uint16_t *parent, size_t x, size_t root) {
+    uint16_t steps = 0;
+    for (; x != root; x = parent[x]) steps++;
+    return steps;
+}
+
+static void join(joined_trees *f, size_t n, size_t u, size_t v) {
+    uint16_t du = f->d[u], dv = f->d[v], tu = f->tree[u], tv = f->tree[v];
+    turn(f->parent, u);
+    turn(f->parent, v);
+    for (size_t x = 0; x < n; x++) {
+        uint16_t far = 0;
+        if (f->tree[x] == tu) far = (uint16_t)(steps(f->parent, x, u) + 1 + dv);
+        else if (f->tree[x] == tv) far = (uint16_t)(steps(f->parent, x, v) + 1 + du);
+        if (f->d[x] < far) f->d[x] = far;
+    }
+    for (size_t x = 0; x < n; x++)
+        if (f->tree[x] == tv) f->tree[x] = tu;
+    f->parent[v] = (uint16_t)u;
+}
+
+void plain_defaults(const uint8_t *table, size_t length, uint32_t bound, uint16_t *defaults) {
+    size_t n = plain_number16(table), k = plain_number16(table + 2);
+    const uint8_t *rows = table + length - 2 * n * k;
+    joined_trees f;
+    for (size_t u = 0; u < n; u++)
+        for (size_t v = u + 1; v < n; v++) {
+            uint16_t same = 0;
+            for (size_t c = 0; c < k; c++) same += plain_number16(rows + 2 * (u * k + c)) == plain_number16(rows + 2 * (v * k + c));
+            weights[u * 512 + v] = (uint8_t)(same ? same - 1 : 0);
+        }
+    for (size_t s = 0; s < n; s++) {
+        f.d[s] = 0;
+        f.parent[s] = f.tree[s] = (uint16_t)s;
+    }
+    for (size_t w = k - 1; w > 0; w--)
+        for (size_t u = 0; u < n; u++)
+            for (size_t v = u + 1; v < n; v++)
+                if (weights[u * 512 + v] == w && f.tree[u] != f.tree[v] && (uint32_t)f.d[u] + f.d[v] + 1 <= bound) join(&f, n, u, v);
+    for (size_t s = 0; s < n; s++) {
+        size_t first = s;
+        for (size_t x = 0; x < n; x++)
+            if (f.tree[x] == f.tree[s] && (f.d[x] < f.d[first] || (f.d[x] == f.d[first] && x < first))) first = x;
+        if (first == s) turn(f.parent, s);
+    }
+    for (size_t s = 0; s < n; s++) defaults[s] = f.parent[s] == s ? 65535 : f.parent[s];
+}

@@ -1,0 +1,41 @@
+/* The tuned walk of an image in C: where each state's entries begin is found once, a root is looked up directly, other states are searched in order. */
+#include "plain.h"
+
+plain_scanned plain_scan(const uint8_t *image, size_t length, uint32_t state, const uint8_t *payload, size_t bytes, uint8_t *room, size_t room_length) {
+    uint32_t n = plain_number16(image), k = plain_number16(image + 2), begins[513];
+    const uint8_t *records = image + 268 + 2 * n, *entries = records + 4 * n;
+    uint32_t most = (uint32_t)(room_length / 6);
+    plain_scanned run = {0, state, 0, 0};
+    (void)length;
+    begins[0] = 0;
+    for (uint32_t s = 0; s < n; s++) begins[s + 1] = begins[s] + plain_number16(records + 4 * s + 2);
+    for (size_t i = 0; i < bytes; i++) {
+        uint32_t class = image[12 + payload[i]], s = run.state, hops = run.hops, target;
+        for (;;) {
+            const uint8_t *entry = entries + 4 * begins[s], *end = entries + 4 * begins[s + 1];
+            if (begins[s + 1] - begins[s] == k) {
+                target = plain_number16(entry + 4 * class + 2);
+                break;
+            }
+            while (entry < end && plain_number16(entry) < class) entry += 4;
+            if (entry < end && plain_number16(entry) == class) {
+                target = plain_number16(entry + 2);
+                break;
+            }
+            s = plain_number16(records + 4 * s);
+            hops++;
+        }
+        uint32_t label = plain_number16(image + 268 + 2 * target);
+        if (label) {
+            if (most <= run.reports) return run;
+            uint8_t *report = room + 6 * run.reports++;
+            uint32_t offset = (uint32_t)i;
+            memcpy(report, &offset, 4);
+            memcpy(report + 4, &(uint16_t){(uint16_t)label}, 2);
+        }
+        run.state = target;
+        run.hops = hops;
+        run.taken++;
+    }
+    return run;
+}
