@@ -102,7 +102,7 @@ int main(void) {
     lent_room = guard(sizeof wanted);
     seed(5);
     edges();
-    random_scans(400);
+    random_scans(2000);
     printf("scanning: %llu cases agree\n  given  ", (unsigned long long)cases);
     for (int r = 0; r < 18; r++)
         if (given[r]) printf(" %d:%llu", r, (unsigned long long)given[r]);
