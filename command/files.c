@@ -1,0 +1,99 @@
+#define _POSIX_C_SOURCE 200809L
+#include "files.h"
+
+#include <errno.h>
+#include <fcntl.h>
+#include <libgen.h>
+#include <stdio.h>
+#include <stdlib.h>
+#include <string.h>
+#include <sys/stat.h>
+#include <unistd.h>
+
+/* The file beside the final place, taken away again where the run fails. */
+static char *unfinished;
+
+static void trouble(const char *name, const char *what) {
+    int number = errno;
+    if (unfinished) unlink(unfinished);
+    if (number) fprintf(stderr, "kamordast: %s: %s: %s\n", name, what, strerror(number));
+    else fprintf(stderr, "kamordast: %s: %s\n", name, what);
+    exit(3);
+}
+
+/* Reads up to `most` bytes; answers how many there were. */
+static size_t read_all(int file, const char *name, uint8_t *bytes, size_t most) {
+    size_t length = 0;
+    while (length < most) {
+        ssize_t got = read(file, bytes + length, most - length);
+        if (got < 0 && errno == EINTR) continue;
+        if (got < 0) trouble(name, "cannot be read");
+        if (got == 0) break;
+        length += (size_t)got;
+    }
+    return length;
+}
+
+size_t read_file(const char *name, uint8_t *bytes, size_t most) {
+    struct stat found;
+    int file = open(name, O_RDONLY);
+    if (file < 0) trouble(name, "cannot be opened");
+    if (fstat(file, &found)) trouble(name, "cannot be read");
+    if (S_ISDIR(found.st_mode)) {
+        errno = 0;
+        trouble(name, "is a directory: a file is wanted");
+    }
+    size_t length = read_all(file, name, bytes, most + 1);
+    close(file);
+    return length;
+}
+
+static void write_all(int file, const char *name, const uint8_t *bytes, size_t length) {
+    while (length > 0) {
+        ssize_t done = write(file, bytes, length);
+        if (done < 0 && errno == EINTR) continue;
+        if (done < 0) trouble(name, "cannot be written (the old file, if there was one, is as it was)");
+        bytes += done;
+        length -= (size_t)done;
+    }
+}
+
+void write_file(const char *name, const uint8_t *bytes, size_t length, accepts *accepted) {
+    size_t room = strlen(name) + sizeof ".kamordast-XXXXXX";
+    char *beside = malloc(room), *copy = strdup(name);
+    uint8_t *back = malloc(length + 1);
+    if (!beside || !copy || !back) trouble(name, "there is not memory enough");
+    snprintf(beside, room, "%s.kamordast-XXXXXX", name);
+    struct stat found;
+    if (stat(name, &found) == 0 && S_ISDIR(found.st_mode)) {
+        errno = 0;
+        trouble(name, "is a directory: a file's name is wanted");
+    }
+    int file = mkstemp(beside);
+    if (file < 0) trouble(name, "cannot be written beside its place");
+    unfinished = beside;
+    mode_t mask = umask(0);
+    umask(mask);
+    if (fchmod(file, 0666 & ~mask)) trouble(name, "cannot be given its rights");
+    write_all(file, name, bytes, length);
+    if (fsync(file)) trouble(name, "cannot be synced");
+    if (close(file)) trouble(name, "cannot be closed");
+    file = open(beside, O_RDONLY);
+    if (file < 0) trouble(name, "cannot be read back");
+    size_t got = read_all(file, name, back, length + 1);
+    close(file);
+    errno = 0;
+    if (got != length || memcmp(back, bytes, length)) trouble(name, "was not read back as it was written: the disk is full or failing");
+    if (!accepted(back, got)) trouble(name, "was not accepted when it was read back");
+    if (rename(beside, name)) trouble(name, "cannot be given its name");
+    unfinished = NULL;
+    /* The name itself is synced too, where the folder can be opened. */
+    int folder = open(dirname(copy), O_RDONLY);
+    if (folder >= 0) {
+        fsync(folder);
+        close(folder);
+    }
+    free(back);
+    free(copy);
+    free(beside);
+}

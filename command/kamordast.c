@@ -1,0 +1,193 @@
+/* The command of the night shift, thin over the proved operations: files in, one operation, files or lines out. */
+#include <errno.h>
+#include <stdio.h>
+#include <stdlib.h>
+#include <string.h>
+
+#include "files.h"
+#include "kamordast.h"
+#include "refusals.h"
+
+enum { DONE = 0, REFUSED = 1, USAGE = 2, TROUBLE = 3 };
+enum {
+    LONGEST_TABLE = 262 + 2 * 512 + 2 * 512 * 256,
+    LONGEST_IMAGE = 280 + 6 * 512 + 4 * 512 * 256,
+    LONGEST_PAYLOAD = 65536,
+};
+
+static uint8_t input[LONGEST_IMAGE + 2], list[1024 + 2], payload[LONGEST_PAYLOAD + 2], room[6 * LONGEST_PAYLOAD + LONGEST_IMAGE];
+
+static const char help[] =
+    "usage: kamordast COMMAND ...\n"
+    "\n"
+    "  judge FILE                     is FILE an image, or a table?\n"
+    "  compact TABLE BOUND IMAGE      the image of TABLE with path bound BOUND, 0 to 65535\n"
+    "  write TABLE DEFAULTS IMAGE     the image of TABLE with a list of defaults, two bytes a state\n"
+    "  expand IMAGE TABLE             the table of IMAGE\n"
+    "  scan IMAGE PAYLOAD [STATE]     the reports of PAYLOAD, from STATE or the start state\n"
+    "  bounds TABLE                   depth, worst, entries, defaults and bytes with bounds 0 to 3\n"
+    "  forest [--dot] TABLE BOUND     which state falls back to which, as lines or for Graphviz\n"
+    "\n"
+    "Exit status: 0 done, 1 refused (the number and what to do on standard error), 2 usage, 3 file trouble.\n"
+    "A file is written beside its place, read back and judged before it gets its name.\n";
+
+static int usage(const char *what) {
+    fprintf(stderr, "kamordast: %s\ntry: kamordast --help\n", what);
+    return USAGE;
+}
+
+static int refuse(const char *name, uint32_t number) {
+    fprintf(stderr, "kamordast: %s: refused %u: %s\n  what to do: %s\n", name, (unsigned)number, refusal_meaning(number), refusal_advice(number));
+    return REFUSED;
+}
+
+static uint32_t number16(const uint8_t *b, size_t at) { return b[at] + 256u * b[at + 1]; }
+static uint32_t number32(const uint8_t *b, size_t at) { return number16(b, at) + 65536u * number16(b, at + 2); }
+
+/* Where the records of an accepted image begin: from its back. */
+static size_t records_at(const uint8_t *image, size_t length) { return length - 12 - 4 * (size_t)number32(image, 8) - 4 * (size_t)number16(image, 0); }
+
+static int is_image(const uint8_t *bytes, size_t length) { return kamordast_judge_image(bytes, length) == 0; }
+static int is_table(const uint8_t *bytes, size_t length) { return kamordast_judge_table(bytes, length) == 0; }
+
+/* A number from 0 to `most`, or -1. */
+static long number_of(const char *word, long most) {
+    char *end;
+    errno = 0;
+    long x = strtol(word, &end, 10);
+    return *word < '0' || *word > '9' || *end || errno || x > most ? -1 : x;
+}
+
+/* A result in the room goes to a file. */
+static int store(const char *from, kamordast_built built, const char *name, accepts *accepted) {
+    if (built.refused) return refuse(from, built.refused);
+    write_file(name, room, built.length, accepted);
+    printf("%s: %u bytes, read back and accepted\n", name, (unsigned)built.length);
+    return DONE;
+}
+
+static int judge(const char *name) {
+    size_t length = read_file(name, input, LONGEST_IMAGE);
+    uint32_t as_image = kamordast_judge_image(input, length), as_table = kamordast_judge_table(input, length);
+    if (as_image == 0) {
+        printf("%s: an image of %u states and %u classes, depth %u, worst %u, %u entries, %zu bytes\n", name, (unsigned)number16(input, 0), (unsigned)number16(input, 2),
+               (unsigned)number16(input, 6), (unsigned)number16(input, length - 4), (unsigned)number32(input, 8), length);
+        return DONE;
+    }
+    if (as_table == 0) {
+        printf("%s: a table of %u states and %u classes, %zu bytes\n", name, (unsigned)number16(input, 0), (unsigned)number16(input, 2), length);
+        return DONE;
+    }
+    fprintf(stderr, "kamordast: %s: as an image refused %u: %s\n  what to do: %s\n", name, (unsigned)as_image, refusal_meaning(as_image), refusal_advice(as_image));
+    fprintf(stderr, "kamordast: %s: as a table refused %u: %s\n  what to do: %s\n", name, (unsigned)as_table, refusal_meaning(as_table), refusal_advice(as_table));
+    return REFUSED;
+}
+
+static int compact(const char *table, const char *bound_word, const char *image) {
+    long bound = number_of(bound_word, 65535);
+    if (bound < 0) return usage("the bound is a number from 0 to 65535");
+    size_t length = read_file(table, input, LONGEST_TABLE);
+    return store(table, kamordast_compact(input, length, (uint16_t)bound, room, sizeof room), image, is_image);
+}
+
+static int write_image(const char *table, const char *defaults, const char *image) {
+    size_t length = read_file(table, input, LONGEST_TABLE), list_length = read_file(defaults, list, 1024);
+    uint32_t refused = kamordast_judge_table(input, length);
+    if (refused) return refuse(table, refused);
+    return store(defaults, kamordast_write(input, length, list, list_length, room, sizeof room), image, is_image);
+}
+
+static int expand(const char *image, const char *table) {
+    size_t length = read_file(image, input, LONGEST_IMAGE);
+    return store(image, kamordast_expand(input, length, room, sizeof room), table, is_table);
+}
+
+static int scan(const char *image, const char *bytes, const char *state_word) {
+    size_t length = read_file(image, input, LONGEST_IMAGE);
+    uint32_t refused = kamordast_judge_image(input, length);
+    if (refused) return refuse(image, refused);
+    long state = state_word ? number_of(state_word, 4294967295L) : (long)number16(input, 4);
+    if (state < 0) return usage("the state is a number");
+    size_t payload_length = read_file(bytes, payload, LONGEST_PAYLOAD);
+    kamordast_scanned r = kamordast_scan(input, length, (uint32_t)state, payload, payload_length, room, 6 * LONGEST_PAYLOAD);
+    if (r.refused) return refuse(r.refused == 15 ? bytes : state_word ? state_word : image, r.refused);
+    for (uint32_t i = 0; i < r.reports; i++) printf("offset %u label %u\n", (unsigned)number32(room, 6 * (size_t)i), (unsigned)number16(room, 6 * (size_t)i + 4));
+    printf("taken %u state %u reports %u hops %u\n", (unsigned)r.taken, (unsigned)r.state, (unsigned)r.reports, (unsigned)r.hops);
+    return DONE;
+}
+
+/* How many states of the image in the room have a default. */
+static uint32_t defaults_in(size_t length) {
+    uint32_t used = 0, n = number16(room, 0);
+    for (uint32_t s = 0; s < n; s++) used += number16(room, records_at(room, length) + 4 * s) != 65535;
+    return used;
+}
+
+static int bounds(const char *table) {
+    size_t length = read_file(table, input, LONGEST_TABLE);
+    uint32_t refused = kamordast_judge_table(input, length);
+    if (refused) return refuse(table, refused);
+    printf("bound depth worst stored defaults bytes\n");
+    for (uint32_t bound = 0; bound < 4; bound++) {
+        kamordast_built built = kamordast_compact(input, length, (uint16_t)bound, room, sizeof room);
+        if (built.refused) return refuse(table, built.refused);
+        printf("%u %u %u %u %u %u\n", (unsigned)bound, (unsigned)number16(room, 6), (unsigned)number16(room, built.length - 4), (unsigned)number32(room, 8),
+               (unsigned)defaults_in(built.length), (unsigned)built.length);
+    }
+    return DONE;
+}
+
+static int forest(const char *table, const char *bound_word, int dot) {
+    long bound = number_of(bound_word, 65535);
+    if (bound < 0) return usage("the bound is a number from 0 to 65535");
+    size_t length = read_file(table, input, LONGEST_TABLE);
+    kamordast_built built = kamordast_compact(input, length, (uint16_t)bound, room, sizeof room);
+    if (built.refused) return refuse(table, built.refused);
+    uint32_t n = number16(room, 0);
+    size_t records = records_at(room, built.length);
+    if (dot) printf("digraph forest {\n  rankdir = BT;\n  node [shape = circle];\n");
+    for (uint32_t s = 0; s < n; s++) {
+        uint32_t d = number16(room, records + 4 * (size_t)s), count = number16(room, records + 4 * (size_t)s + 2), label = number16(input, 262 + 2 * (size_t)s);
+        if (dot) {
+            printf("  %u [label = \"%u\\n%u stored\"%s%s];\n", (unsigned)s, (unsigned)s, (unsigned)count, d == 65535 ? ", style = bold" : "", label ? ", peripheries = 2" : "");
+            if (d != 65535) printf("  %u -> %u;\n", (unsigned)s, (unsigned)d);
+        } else if (d == 65535) {
+            printf("%u root, stores %u\n", (unsigned)s, (unsigned)count);
+        } else {
+            printf("%u falls to %u, stores %u\n", (unsigned)s, (unsigned)d, (unsigned)count);
+        }
+    }
+    if (dot) printf("}\n");
+    return DONE;
+}
+
+static int run(int count, char **words) {
+    if (count < 2) return usage("a command is wanted");
+    const char *command = words[1];
+    if (!strcmp(command, "--help") || !strcmp(command, "-h") || !strcmp(command, "help")) {
+        fputs(help, stdout);
+        return DONE;
+    }
+    if (!strcmp(command, "judge")) return count == 3 ? judge(words[2]) : usage("judge wants FILE");
+    if (!strcmp(command, "compact")) return count == 5 ? compact(words[2], words[3], words[4]) : usage("compact wants TABLE BOUND IMAGE");
+    if (!strcmp(command, "write")) return count == 5 ? write_image(words[2], words[3], words[4]) : usage("write wants TABLE DEFAULTS IMAGE");
+    if (!strcmp(command, "expand")) return count == 4 ? expand(words[2], words[3]) : usage("expand wants IMAGE TABLE");
+    if (!strcmp(command, "scan"))
+        return count == 4 || count == 5 ? scan(words[2], words[3], count == 5 ? words[4] : NULL) : usage("scan wants IMAGE PAYLOAD [STATE]");
+    if (!strcmp(command, "bounds")) return count == 3 ? bounds(words[2]) : usage("bounds wants TABLE");
+    if (!strcmp(command, "forest")) {
+        int dot = count > 2 && !strcmp(words[2], "--dot");
+        return count == 4 + dot ? forest(words[2 + dot], words[3 + dot], dot) : usage("forest wants [--dot] TABLE BOUND");
+    }
+    fprintf(stderr, "kamordast: there is no command %s\ntry: kamordast --help\n", command);
+    return USAGE;
+}
+
+int main(int count, char **words) {
+    int status = run(count, words);
+    if (fflush(stdout) || ferror(stdout)) {
+        fprintf(stderr, "kamordast: standard output cannot be written\n");
+        return TROUBLE;
+    }
+    return status;
+}

@@ -1,0 +1,29 @@
+#include "refusals.h"
+
+static const struct {
+    const char *meaning, *advice;
+} sheet[] = {
+    {"nothing is wrong", "nothing is to be done"},
+    {"the file is too short to be a table or an image", "it is empty or was cut short: fetch it anew from its source"},
+    {"the number of states, classes or entries is out of range", "this is no table or image, or its front is damaged: check that the right file was taken, then fetch it anew"},
+    {"the length is not the one that the counts give", "the file was cut short or has something after its end: compare its size with the source's and fetch it anew"},
+    {"the trailer's length or distance back is wrong", "the end of the image is damaged or belongs to another image: fetch it anew and do not load it"},
+    {"the check word differs", "a byte was altered on the way: fetch the image anew and do not load it"},
+    {"the start state is not a state", "it was built wrongly: send it back to the rules desk"},
+    {"a byte's class is not a class, or there is a class that no byte has", "it was built wrongly: send it back to the rules desk"},
+    {"a default is not a state, or a count of entries is wrong, or the list of defaults has not two bytes for each state",
+     "the list of defaults does not belong to this table, or the image was built wrongly: take the list that was made with the table, or send the image back"},
+    {"an entry's class is not a class, or does not stand in order", "the image was built wrongly: build it anew from the table"},
+    {"a next state is not a state", "it was built wrongly: send it back to the rules desk"},
+    {"a chain of defaults runs in a circle", "take another list of defaults, or build with compact"},
+    {"an entry says what the default's chain says already", "the image stores what it need not: build it anew from the table"},
+    {"the stated depth or worst is not true", "build the image anew from the table"},
+    {"the state is not a state of this image", "begin in the image's own start state"},
+    {"the payload has more than 65,536 bytes", "cut the payload and carry the state over from one scan to the next"},
+    {"the room for the result is too short", "give a larger room"},
+    {"the depth built exceeds the bound halved and rounded up", "this cannot happen: keep the table and call the engineers"},
+};
+
+static int known(uint32_t number) { return number < sizeof sheet / sizeof *sheet; }
+const char *refusal_meaning(uint32_t number) { return known(number) ? sheet[number].meaning : "this is no refusal's number"; }
+const char *refusal_advice(uint32_t number) { return known(number) ? sheet[number].advice : "call the engineers"; }
