@@ -10,6 +10,9 @@
 #include <sys/stat.h>
 #include <unistd.h>
 
+/* What is put behind a name for the file beside its place. mkstemp(3) wants the six X and puts letters there that no file has yet. */
+static const char ending[] = ".kamordast-XXXXXX";
+
 /* The file beside the final place, taken away again where the run fails. */
 static char *unfinished;
 
@@ -59,11 +62,11 @@ static void write_all(int file, const char *name, const uint8_t *bytes, size_t l
 }
 
 void write_file(const char *name, const uint8_t *bytes, size_t length, accepts *accepted) {
-    size_t room = strlen(name) + sizeof ".kamordast-XXXXXX";
+    size_t room = strlen(name) + sizeof ending;
     char *beside = malloc(room), *copy = strdup(name);
     uint8_t *back = malloc(length + 1);
     if (!beside || !copy || !back) trouble(name, "there is not memory enough");
-    snprintf(beside, room, "%s.kamordast-XXXXXX", name);
+    snprintf(beside, room, "%s%s", name, ending);
     struct stat found;
     if (stat(name, &found) == 0 && S_ISDIR(found.st_mode)) {
         errno = 0;
