@@ -12,7 +12,7 @@ use Rattle.paper.specs.Below.{when}
 use Rattle.paper.specs.Words.{number16}
 use Rattle.paper.proofs.Rising.{ahead, full-row}
 use Rattle.image.specs.Forms.{storedIn}
-use Rattle.image.specs.Laid.{Rising, Row}
+use Rattle.image.specs.Laid.{Rising, Under, Row}
 use Rattle.paper.proofs.Below.{firstOf-nowhere, firstOf-at}
 
 -- The class of an entry of a row.
@@ -28,11 +28,6 @@ row-nowhere : (row : List ℕ) (c : ℕ) → ((j : ℕ) → j < length row / 4 �
 unfolding storedIn
 row-nowhere row c h = firstOf-nowhere (nextFor row c) (length row / 4) (λ i l. rw (ne-eqb (classAt row i) c (h i l)))
 
--- The first j entries of the row have classes below the class.
-pub record Passed (row : List ℕ) (count c j : ℕ) : Type 0 where
-  pub within : j ≤ count
-  pub under : (i : ℕ) → i < j → classAt row i < c
-
 module _ {row : List ℕ} {count : ℕ} (R : Rising row count) where
   -- The bytes of the row tell its entries.
   entries-are : length row / 4 ≡ count
@@ -47,31 +42,31 @@ module _ {row : List ℕ} {count : ℕ} (R : Rising row count) where
       (λ i l. rw (ne-eqb (classAt row i) c (λ q. absurd (omega (arith, ahead (classAt row) count (R .rises) i j l h)))))
       (rw (eq-eqb (classAt row j) c e)))
 
-  -- Nothing is passed at the start.
-  pub passed-none : (c : ℕ) → Passed row count c 0
-  passed-none c = record { within = omega arith; under = λ i l. absurd (omega arith) }
+  -- No entry stands before the first.
+  pub under-none : (c : ℕ) → Under row count c 0
+  under-none c = record { within = omega arith; lower = λ i l. absurd (omega arith) }
 
-  module _ {c j : ℕ} (P : Passed row count c j) where
-    -- One entry more is passed where its class is below the class.
-    pub passed-more : j < count → classAt row j < c → Passed row count c (j + 1)
-    passed-more h l = record { within = omega arith; under = λ i hi. go i hi (ℕ-discrete i j) }
-      where
-        go : (i : ℕ) → i < j + 1 → Dec (i ≡ j) → classAt row i < c
-        go i hi (yes e) = rw e l
-        go i hi (no e) = P .under i (omega arith)
+  -- Where an entry's class is below c, those of all before it are, since they rise.
+  pub under-to : (c j : ℕ) → j < count → classAt row j < c → Under row count c (j + 1)
+  under-to c j h l = record { within = omega arith; lower = λ i hi. go i hi (ℕ-discrete i j) }
+    where
+      go : (i : ℕ) → i < j + 1 → Dec (i ≡ j) → classAt row i < c
+      go i hi (yes e) = rw e l
+      go i hi (no e) = omega (arith, ahead (classAt row) count (R .rises) i j (omega arith) h)
 
+  module _ {c j : ℕ} (P : Under row count c j) where
     -- Where the next entry's class is above the class, it is not stored.
-    pub passed-over : j < count → c < classAt row j → storedIn row c ≡ none
-    passed-over h l = row-nowhere row c (λ i hi e. go i (rw entries-are at hi) e (decLt i j) (ℕ-discrete i j))
+    pub under-over : j < count → c < classAt row j → storedIn row c ≡ none
+    under-over h l = row-nowhere row c (λ i hi e. go i (rw entries-are at hi) e (decLt i j) (ℕ-discrete i j))
       where
         go : (i : ℕ) → i < count → classAt row i ≡ c → Dec (i < j) → Dec (i ≡ j) → ⊥
-        go i hi e (yes k) d = absurd (omega (arith, P .under i k))
+        go i hi e (yes k) d = absurd (omega (arith, P .lower i k))
         go i hi e (no k) (yes q) = let w : classAt row j ≡ c = rw q at e in absurd (omega arith)
         go i hi e (no k) (no q) = absurd (omega (arith, ahead (classAt row) count (R .rises) j i (omega arith) hi))
 
-    -- Where all are passed it is not stored.
-    pub passed-all : count ≤ j → storedIn row c ≡ none
-    passed-all h = row-nowhere row c (λ i hi e. absurd (omega (arith, entries-are, P .under i (omega (arith, entries-are, P .within)))))
+    -- Where all are below the class, it is not stored.
+    pub under-all : count ≤ j → storedIn row c ≡ none
+    under-all h = row-nowhere row c (λ i hi e. absurd (omega (arith, entries-are, P .lower i (omega (arith, entries-are, P .within)))))
 
 -- A row of all k classes stores class c at place c.
 pub row-full : {row : List ℕ} {k : ℕ} → Row row k → length row / 4 ≡ k → (c : ℕ) → c < k → storedIn row c ≡ some (number16 row (4 * c + 2))

@@ -24,7 +24,12 @@ pub record Rising (row : List ℕ) (count : ℕ) : Type 0 where
   pub sized : length row ≡ 4 * count
   pub rises : (j : ℕ) → suc j < count → number16 row (4 * j) < number16 row (4 * suc j)
 
--- Moreover they are below k.
+-- The first j of a row's so many entries have classes below c.
+pub record Under (row : List ℕ) (count c j : ℕ) : Type 0 where
+  pub within : j ≤ count
+  pub lower : (i : ℕ) → i < j → number16 row (4 * i) < c
+
+-- A row whose classes rise and are below k.
 pub record Row (row : List ℕ) (k : ℕ) : Type 0 where
   pub rising : Rising row (length row / 4)
   pub below : (j : ℕ) → j < length row / 4 → number16 row (4 * j) < k

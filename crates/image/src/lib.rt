@@ -5,7 +5,7 @@ ghost use lib.ListN.{length};
 ghost use Rattle.paper.specs.View.{look};
 ghost use Rattle.paper.specs.Image.{states, classes, entries, recordsAt, entriesPart, imageView};
 ghost use Rattle.image.specs.Forms.{recordAt, numberOf, stepOf, storedIn};
-ghost use Rattle.image.specs.Laid.{Laid, Begins, Rising, Row, Ready};
+ghost use Rattle.image.specs.Laid.{Laid, Begins, Rising, Under, Row, Ready};
 
 // Where a state falls: it is a root, or it falls to a state.
 pub enum Fallback {
@@ -91,12 +91,30 @@ pub fn entries_of<'a>(image: &'a [u8], begins: &[u32; 513], s: usize) -> &'a [u8
     &image[from..end]
 }
 
+// Halves a long row to a place with at most eight entries between it and the class; every entry before that place is below the class.
+fn near(row: &[u8], count: usize, class: u16) -> usize
+    requires { ⌜ Rising (now row) count ⌝ }
+    ensures { λ r. ⌜ Under (now (row .entry)) count class r ⌝ }
+{
+    let mut low = 0;
+    let mut high = count;
+    while low + 8 < high {
+        let middle = (low + high) / 2;
+        if words::get16(row, 4 * middle) < class {
+            low = middle + 1;
+        } else {
+            high = middle;
+        }
+    }
+    low
+}
+
 // One step over a row whose classes rise: it ends at the first that is not below the class.
 fn search(row: &[u8], count: usize, class: u16) -> Step
     requires { ⌜ Rising (now row) count ⌝ }
     ensures { λ r. ⌜ r ≡ stepOf (storedIn (now (row .entry)) class) ⌝ }
 {
-    let mut j = 0;
+    let mut j = near(row, count, class);
     while j < count {
         let c = words::get16(row, 4 * j);
         if class <= c {
