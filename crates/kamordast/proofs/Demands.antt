@@ -1,9 +1,10 @@
 -- The demands as theorems, over the operations' own functions on lists of bytes. Each operation in code promises to answer and leave what its function says.
 use mathlib.Core.Path.{_≡_}
 use mathlib.Core.Logic.{_↔_}
-use mathlib.Core.List.{List}
+use mathlib.Core.Bool.{true}
+use mathlib.Core.List.{List, [], _∷_}
 use mathlib.Core.Option.{none}
-use Prim.Native.Nat.{ℕ, _+_, _*_, _/_, _≤_, _<_}
+use Prim.Native.Nat.{ℕ, _+_, _-_, _*_, _/_, _≤_, _<_}
 use lib.ListN.{length, take}
 use Rattle.paper.specs.Below.{sum, howMany, given}
 use Rattle.paper.specs.Words.{Bytes}
@@ -12,11 +13,17 @@ use Rattle.paper.specs.Image as image
 use Rattle.paper.specs.View.{depthOf, look}
 use Rattle.paper.specs.Results.{defaultsOf, entriesOf, tableView, tableOf}
 use Rattle.paper.specs.Scan.{scanOf}
-use Rattle.paper.specs.Forest.{weight, weightsOf, forest, defaults}
+use Rattle.paper.specs.Forest.{weight, singles, weightsOf, forest, defaults}
 use Rattle.paper.specs.Operations.{judgeTable, judgeImage, building, compact, write, expand, scan}
 use Rattle.paper.specs.Sentences.{FirstOf, tableSentences, imageSentences, compactSentences, writeSentences, expandSentences, scanSentences}
+use Rattle.paper.specs.Promises.{JudgesTable, JudgesImage, Compacts, Writes, Expands, Scans}
+use Rattle.paper.specs.Cases.{built, right, room, starred, three}
+use Rattle.paper.proofs.Levels.{levels, falling-levels}
 use Rattle.paper.proofs.Distances.{TrueDistances}
 use Rattle.paper.proofs.Exact as exact
+use Rattle.paper.proofs.Determined as one
+use Rattle.paper.proofs.Determined.{SameBuilt}
+use Rattle.paper.proofs.Cases as stars
 use Rattle.paper.proofs.Refused as refusing
 use Rattle.paper.proofs.Refused.{Unchanged}
 use Rattle.facts.proofs.ImageFacts.{accepted-image}
@@ -33,6 +40,7 @@ use Rattle.scan.proofs.Follows.{Follows}
 use Rattle.scan.proofs.Hops as hops
 use Rattle.scan.proofs.Hops.{hopsAt}
 use Rattle.kamordast.proofs.Scanned as scanned
+use Rattle.kamordast.proofs.Compacted as compacted
 
 -- Each operation's number is that of the first of its sentences that holds, 0 where none does.
 pub refusals-exact : ((t : List ℕ) (number : ℕ) → judgeTable t ≡ number ↔ FirstOf (tableSentences t) number)
@@ -59,6 +67,12 @@ prefix-refused = damage.prefix-refused
 pub altered-refused : (b b′ : List ℕ) → Bytes b → Bytes b′ → judgeImage b ≡ 0 → Altered b b′ → ¬ (judgeImage b′ ≡ 0)
 altered-refused = damage.altered-refused
 
+-- The defaults in what compact leaves are those of the bounded greedy forest, and that forest is three loops: over falling weights, first states and second states.
+pub forest-defined : ((t : List ℕ) (D : ℕ) (room : List ℕ) → Bytes t → compact t D room .number ≡ 0 → (s : ℕ) → s < states t → image.default (result (compact t D room)) s ≡ defaults t D s)
+    × ((t : List ℕ) (D : ℕ) → forest t D ≡ levels (states t) D (weight t) (classes t - 1) singles)
+unfolding forest
+forest-defined = (compacted.compacted-defaults, λ t D. falling-levels (states t) D (weight t) (classes t - 1) singles)
+
 -- The distances of the forest are the lengths of the paths over the pairs added.
 pub distances-true : (t : List ℕ) (D : ℕ) → TrueDistances (forest t D)
 distances-true = trees.distances-true
@@ -72,11 +86,14 @@ expands-back = (expands.expand-write, expands.expand-compact)
 pub writes-back : (b room room′ : List ℕ) → Bytes b → expand b room .number ≡ 0 → length b ≤ length room′ → write (result (expand b room)) (defaultsOf b) room′ ≡ building 0 b room′
 writes-back = writes.write-expand-own
 
--- After every byte a scan is in the plain table's state and has reported exactly its matches.
-pub scan-follows : (b : List ℕ) → Bytes b → judgeImage b ≡ 0 → (s : ℕ) (payload : List ℕ) (room : ℕ) → s < image.states b → Bytes payload
+-- After every byte a scan is in the plain table's state and has reported exactly its matches: the table of any accepted image, and the table that was compacted.
+pub scan-follows : ((b : List ℕ) → Bytes b → judgeImage b ≡ 0 → (s : ℕ) (payload : List ℕ) (room : ℕ) → s < image.states b → Bytes payload
     → (i : ℕ) → i ≤ scanOf b s payload room .taken
-    → Follows (classOf (tableOf b)) (labels (tableOf b)) (next (tableOf b)) s (take i payload) (scanOf b s (take i payload) room)
-scan-follows = scanned.scan-follows
+    → Follows (classOf (tableOf b)) (labels (tableOf b)) (next (tableOf b)) s (take i payload) (scanOf b s (take i payload) room))
+    × ((t : List ℕ) (D : ℕ) (room : List ℕ) → Bytes t → compact t D room .number ≡ 0 → (s : ℕ) (payload : List ℕ) (reports : ℕ) → s < states t → Bytes payload
+    → (i : ℕ) → i ≤ scanOf (result (compact t D room)) s payload reports .taken
+    → Follows (classOf t) (labels t) (next t) s (take i payload) (scanOf (result (compact t D room)) s (take i payload) reports))
+scan-follows = (scanned.scan-follows, compacted.compacted-follows)
 
 -- Hops counted are those of the chain's definition: the sum over the bytes taken of the hops of their look-ups.
 pub hops-counted : (b : List ℕ) (s : ℕ) (payload : List ℕ) (room : ℕ) → scanOf b s payload room .hops ≡ sum (scanOf b s payload room .taken) (hopsAt b s payload room)
@@ -92,9 +109,10 @@ pub worst-met : (b : List ℕ) → judgeImage b ≡ 0
     → (s : ℕ) × (x : ℕ) × (s < image.states b) × (x < 256) × (look (image.imageView b) s (image.classOf b x) .hops ≡ image.worst b)
 worst-met = scanned.worst-met
 
--- With path bound D no chain is longer than D halved and rounded up, so 17 is never given.
-pub half-of-bound : (t : List ℕ) (D : ℕ) → depthOf (tableView t (defaults t D)) ≤ (D + 1) / 2
-half-of-bound = chosen.defaults-depth
+-- With path bound D no chain is longer than D halved and rounded up, so 17 is never given; nor is the depth that compact states.
+pub half-of-bound : ((t : List ℕ) (D : ℕ) → depthOf (tableView t (defaults t D)) ≤ (D + 1) / 2)
+    × ((t : List ℕ) (D : ℕ) (room : List ℕ) → Bytes t → compact t D room .number ≡ 0 → image.depth (result (compact t D room)) ≤ (D + 1) / 2)
+half-of-bound = (chosen.defaults-depth, compacted.compacted-depth)
 
 -- Stored entries, plus defaults, plus the weights of the pairs added, equal n times k.
 pub entries-sum : (t : List ℕ) (D : ℕ)
@@ -108,3 +126,24 @@ bound-zero = bounds.bound-zero
 -- D at n - 1 or more binds nothing: all such bounds give the same defaults.
 pub bound-free : (t : List ℕ) (D D′ : ℕ) → states t ≤ D + 1 → states t ≤ D′ + 1 → defaults t D ≡ defaults t D′
 bound-free = bounds.bound-free
+
+-- Of each operation any two outcomes that its promise allows are one: all its numbers, and every byte of its room.
+pub determined : ((t : List ℕ) (n n′ : ℕ) → JudgesTable t n → JudgesTable t n′ → n ≡ n′)
+    × ((b : List ℕ) (n n′ : ℕ) → JudgesImage b n → JudgesImage b n′ → n ≡ n′)
+    × ((t : List ℕ) (D : ℕ) (room : List ℕ) (n l n′ l′ : ℕ) (r r′ : List ℕ) → Compacts t D room n l r → Compacts t D room n′ l′ r′ → SameBuilt n l r n′ l′ r′)
+    × ((t ds room : List ℕ) (n l n′ l′ : ℕ) (r r′ : List ℕ) → Writes t ds room n l r → Writes t ds room n′ l′ r′ → SameBuilt n l r n′ l′ r′)
+    × ((b room : List ℕ) (n l n′ l′ : ℕ) (r r′ : List ℕ) → Expands b room n l r → Expands b room n′ l′ r′ → SameBuilt n l r n′ l′ r′)
+    × ((b : List ℕ) (s : ℕ) (payload room : List ℕ) (n t q k h n′ t′ q′ k′ h′ : ℕ) (r r′ : List ℕ)
+    → Scans b s payload room n t q k h r → Scans b s payload room n′ t′ q′ k′ h′ r′ → (n ≡ n′) × (t ≡ t′) × (q ≡ q′) × (k ≡ k′) × (h ≡ h′) × (r ≡ r′))
+determined = (
+  one.judge-table-determined,
+  one.judge-image-determined,
+  one.compact-determined,
+  one.write-determined,
+  one.expand-determined,
+  one.scan-determined,
+)
+
+-- The starred cases, one table, are right; the table of three states compacted with any D has 322 bytes and no defaults.
+pub cases : (right starred ≡ true) × ((D : ℕ) → built (compact three D (room 322)) ≡ 0 ∷ 322 ∷ 6 ∷ 0 ∷ 0 ∷ 65535 ∷ 65535 ∷ 65535 ∷ [])
+cases = stars.cases

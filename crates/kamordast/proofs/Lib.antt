@@ -1,2 +1,3 @@
 pub mod Scanned
+pub mod Compacted
 pub mod Demands

@@ -22,21 +22,34 @@ expand-image t default room B W h =
     let e = table-of-image t default B W in
     expand-accepts (imageOf t default) room (image-of-accepted t default B W) (rw e h) ∙ ap (λ (x : List ℕ). building 0 x room) e
 
+-- What write leaves is the image of the table with the defaults listed, which can be written.
+pub write-leaves : (t ds room : List ℕ) → write t ds room .number ≡ 0 → (result (write t ds room) ≡ imageOf t (listed ds)) × Writable t (listed ds)
+unfolding write
+write-leaves t ds room e =
+    let (z, w) = built-result (first (writeGrounds t ds (length room))) (imageOf t (listed ds)) room e in
+    (w, write-writable t ds (length room) z)
+
+-- What compact leaves is the image of the table with the forest's defaults, which can be written.
+pub compact-leaves : (t : List ℕ) (D : ℕ) (room : List ℕ) → compact t D room .number ≡ 0
+    → (result (compact t D room) ≡ imageOf t (defaults t D)) × Writable t (defaults t D)
+unfolding compact compacted
+compact-leaves t D room e =
+    let (z, w) = built-result (first (compactGrounds t D (length room))) (compacted t D) room e in
+    (w, compact-writable t D (length room) z)
+
 -- Expand of what write leaves gives the table.
 pub expand-write : (t ds room room′ : List ℕ) → Bytes t → write t ds room .number ≡ 0 → length t ≤ length room′
     → expand (result (write t ds room)) room′ ≡ building 0 t room′
-unfolding write
 expand-write t ds room room′ B e h =
-    let (z, w) = built-result (first (writeGrounds t ds (length room))) (imageOf t (listed ds)) room e in
-    ap (λ (b : List ℕ). expand b room′) w ∙ expand-image t (listed ds) room′ B (write-writable t ds (length room) z) h
+    let (w, W) = write-leaves t ds room e in
+    ap (λ (b : List ℕ). expand b room′) w ∙ expand-image t (listed ds) room′ B W h
 
 -- Expand of what compact leaves gives the table.
 pub expand-compact : (t : List ℕ) (D : ℕ) (room room′ : List ℕ) → Bytes t → compact t D room .number ≡ 0 → length t ≤ length room′
     → expand (result (compact t D room)) room′ ≡ building 0 t room′
-unfolding compact compacted
 expand-compact t D room room′ B e h =
-    let (z, w) = built-result (first (compactGrounds t D (length room))) (compacted t D) room e in
-    ap (λ (b : List ℕ). expand b room′) w ∙ expand-image t (defaults t D) room′ B (compact-writable t D (length room) z) h
+    let (w, W) = compact-leaves t D room e in
+    ap (λ (b : List ℕ). expand b room′) w ∙ expand-image t (defaults t D) room′ B W h
 
 -- So with what is promised: the numbers and the room that write leaves, and those that expand leaves of its result.
 pub expands-back : (t ds room room′ : List ℕ) (number l number′ l′ : ℕ) (r r′ : List ℕ) → Bytes t
