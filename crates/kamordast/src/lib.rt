@@ -1,6 +1,12 @@
 // The front door: the operations as Rattle and C call them. Each answers for all input that it can be handed.
 use answers::Built;
 use answers::Scanned;
+pub use build::compact;
+pub use build::write;
+pub use expand::expand;
+pub use judge::judge_image;
+pub use scan::scan;
+pub use table::judge_table;
 ghost use Rattle.paper.specs.Promises.{JudgesTable, JudgesImage, Writes, Compacts, Expands, Scans};
 
 // Judges a plain table: 0, or the refusal's number.

@@ -1,0 +1,4 @@
+// The program `bounds` run on a table that is refused.
+fn main() {
+    printed::run();
+}

@@ -1,0 +1,4 @@
+// The program `bounds` run on an input that is too long.
+fn main() {
+    printed::run();
+}
