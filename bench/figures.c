@@ -1,98 +1,101 @@
-/* One case of a benchmark: makes the table and the payload, does the work in C and by the archive, and fails where they differ. The instructions of
- * each are counted from outside (bench/run). */
+/* The rows of bench/run. Each row is one operation on one case, by the archive and by C; where they differ the program ends with status 1. Prints for each
+ * row: its number, the operation, the case, the bytes of the table and of the image, both times in milliseconds and the archive's stack in bytes; - for
+ * what has no meaning there. Under callgrind it prints nothing and has the instructions written out, named by the row's number. */
 #include <stdio.h>
-#include <stdlib.h>
+#include <string.h>
 
-#include "kamordast.h"
-#include "plain.h"
-#include "support.h"
+#include "cases.h"
+#include "operations.h"
 
-static uint8_t table[LONGEST_TABLE], image[LONGEST_IMAGE], other[LONGEST_IMAGE], payload[65536], reports[6 * 65536], others[6 * 65536];
-static uint16_t going[512][256], falls[512], labels[512];
-static uint8_t words[512][13];
-static uint32_t lengths[512], n, k;
+/* Does the action, counted under the row's number and the side's name. */
+static void counted_row(uint32_t row, const char *side, action *act) {
+    char name[32];
+    snprintf(name, sizeof name, "row %u %s", (unsigned)row, side);
+    counted(name, act);
+}
 
-/* A letter: one of a to z where there are 27 classes, else one of 208 bytes. */
-static uint8_t letter(void) { return k == 27 ? (uint8_t)('a' + below(26)) : (uint8_t)(48 + below(208)); }
+static void print_bytes(size_t bytes) {
+    if (bytes) printf("\t%zu", bytes);
+    else printf("\t-");
+}
 
-static uint32_t class_of(uint8_t x) { return k == 27 ? (x >= 'a' && x <= 'z' ? x - 'a' + 1u : 0) : (x >= 48 ? x - 47u : 0); }
+/* One operation on the case at hand. */
+static void row(const operation *o) {
+    static uint32_t rows;
+    rows++;
+    if (o->less) counted_row(rows, "less", o->less);
+    memset(&by_archive, 0, sizeof by_archive);
+    memset(&by_c, 0, sizeof by_c);
+    counted_row(rows, "archive", o->archive);
+    counted_row(rows, "c", o->c);
+    compare(o);
+    if (counting()) return;
+    action *const acts[] = {o->archive, o->c, o->less};
+    double ms[3] = {0, 0, 0};
+    timed(acts, o->less ? 3 : 2, ms);
+    /* A table is judged without a bound and without an image. */
+    const char *bound = o == &judging_a_table ? strstr(case_name, ", D") : NULL;
+    printf("%u\t%s\t%.*s", (unsigned)rows, o->name, (int)(bound ? bound - case_name : (long)sizeof case_name), case_name);
+    print_bytes(given.table_length);
+    print_bytes(bound ? 0 : given.image_length);
+    printf("\t%.6f\t%.6f", ms[0] - ms[2], ms[1]);
+    /* The stack of a scan is that of the whole operation. */
+    print_bytes(o->less ? 0 : stack_of(o->archive));
+    printf("\n");
+}
 
-/* The table of a list of words of 4 to 12 letters, about 490 states: the automaton of Aho and Corasick. */
-static size_t word_list(uint32_t *number) {
-    static uint16_t order[512];
-    *number = 0;
-    n = 1;
-    memset(going, 0, sizeof going);
-    while (n < 482) {
-        uint32_t at = 0, w = (*number)++;
-        lengths[w] = 4 + below(9);
-        for (uint32_t i = 0; i < lengths[w]; i++) {
-            uint8_t x = words[w][i] = letter();
-            uint32_t c = class_of(x);
-            if (!going[at][c]) going[at][c] = (uint16_t)n++;
-            at = going[at][c];
+/* An operation on both word lists with one bound or two. */
+static void word_rows(const operation *o, uint32_t last_bound) {
+    for (uint32_t k = 27; k <= 209; k += 182)
+        for (uint32_t bound = 2; bound <= last_bound; bound += 6) {
+            use_words(k, bound);
+            row(o);
         }
-        labels[at] = (uint16_t)(w + 1);
-    }
-    uint32_t taken = 0, put = 1;
-    order[0] = 0;
-    while (taken < put) {
-        uint32_t s = order[taken++];
-        for (uint32_t c = 0; c < k; c++) {
-            uint32_t t = going[s][c];
-            if (t) {
-                falls[t] = s ? going[falls[s]][c] : 0;
-                if (!labels[t]) labels[t] = labels[falls[t]];
-                order[put++] = (uint16_t)t;
-            } else if (s) going[s][c] = going[falls[s]][c];
+}
+
+/* A scan of both word lists with both bounds and both payloads. */
+static void scan_rows(const operation *o) {
+    for (uint32_t k = 27; k <= 209; k += 182)
+        for (uint32_t bound = 2; bound <= 8; bound += 6)
+            for (int near = 0; near < 2; near++) {
+                use_words(k, bound);
+                use_payload(near);
+                row(o);
+            }
+}
+
+/* An operation on the largest table of random rows. */
+static void random_row(const operation *o) {
+    use_largest("random", 3);
+    row(o);
+}
+
+int main(void) {
+    const char *const shapes[] = {"equal", "path", "random"};
+    word_rows(&judging_a_table, 2);
+    random_row(&judging_a_table);
+    word_rows(&judging_an_image, 8);
+    random_row(&judging_an_image);
+    word_rows(&compact, 2);
+    for (size_t shape = 0; shape < 3; shape++)
+        for (uint32_t bound = 3; bound <= 65535; bound += 65532) {
+            use_largest(shapes[shape], bound);
+            row(&compact);
         }
-    }
-    for (uint32_t s = 0; s < n; s++) {
-        set16(table, 262 + 2 * s, labels[s]);
-        for (uint32_t c = 0; c < k; c++) set16(table, 262 + 2 * n + 2 * (s * k + c), going[s][c]);
-    }
-    set16(table, 0, n);
-    set16(table, 2, k);
-    set16(table, 4, 0);
-    for (uint32_t x = 0; x < 256; x++) table[6 + x] = (uint8_t)class_of((uint8_t)x);
-    return 262 + 2 * n + 2 * n * k;
-}
-
-/* scan K D text|near: a payload of 65,536 bytes, of letters and some words, or of words that end one letter early. */
-static void scan_case(uint32_t bound, int near) {
-    uint32_t number;
-    size_t length = word_list(&number), i = 0;
-    kamordast_built built = kamordast_compact(table, length, (uint16_t)bound, image, sizeof image);
-    if (built.refused) fail("the table is refused", built.refused);
-    while (i < sizeof payload) {
-        uint32_t w = below(number), whole = near || below(6) == 0;
-        for (uint32_t j = 0; whole && j + (uint32_t)near < lengths[w] && i < sizeof payload; j++) payload[i++] = words[w][j];
-        for (uint32_t j = near ? 1 : 5; j && i < sizeof payload; j--) payload[i++] = below(5) ? letter() : ' ';
-    }
-    kamordast_scanned answer = kamordast_scan(image, built.length, 0, payload, sizeof payload, reports, sizeof reports);
-    plain_scanned right = plain_scan(image, built.length, 0, payload, sizeof payload, others, sizeof others);
-    if (answer.refused || kamordast_judge_image(image, built.length)) fail("the image is refused", answer.refused);
-    if (answer.taken != right.taken || answer.state != right.state || answer.reports != right.reports || answer.hops != right.hops || memcmp(reports, others, sizeof reports)) fail("the scans differ", answer.hops);
-    printf("n %u, k %u, D %u, %s: image %u bytes for %zu, %u reports, %u hops\n", n, k, bound, near ? "near misses" : "text", built.length, length, answer.reports, answer.hops);
-}
-
-/* compact D equal|path|random: n 512 and k 256. */
-static void compact_case(uint32_t bound, char shape) {
-    n = 512, k = 256;
-    size_t length = make_table(table, n, k, shape == 'r' ? 200 : 0);
-    for (uint32_t s = 0; s < n && shape != 'r'; s++)
-        for (uint32_t c = 0; c < k; c++) set16(table, 262 + 2 * n + 2 * (s * k + c), shape == 'e' ? 0 : (s < c ? 0 : c < s / 2 ? s : 1));
-    kamordast_built answer = kamordast_compact(table, length, (uint16_t)bound, image, sizeof image);
-    size_t right = plain_compact(table, length, bound, other);
-    if (answer.refused || answer.length != right || memcmp(image, other, right)) fail("the images differ", answer.length);
-    printf("n %u, k %u, D %u, %s rows: %u bytes for %zu, depth %u\n", n, k, bound, shape == 'e' ? "equal" : shape == 'p' ? "path-shaped" : "random", answer.length, length, number16(image, 6));
-}
-
-int main(int count, char **given) {
-    if (count != 5) fail("figures scan K D text|near, figures compact 256 D equal|path|random", 0);
-    seed(7);
-    k = (uint32_t)atoi(given[2]);
-    if (given[1][0] == 's') scan_case((uint32_t)atoi(given[3]), given[4][0] == 'n');
-    else compact_case((uint32_t)atoi(given[3]), given[4][0]);
+    word_rows(&compact_seeking, 2);
+    random_row(&compact_seeking);
+    word_rows(&write_with_a_list, 2);
+    random_row(&write_with_a_list);
+    word_rows(&expand, 2);
+    random_row(&expand);
+    scan_rows(&scan);
+    scan_rows(&scan_with_judging);
+    use_flat();
+    row(&judging_an_image);
+    use_chain();
+    row(&judging_an_image);
+    use_detour();
+    row(&scan);
+    row(&scan_with_judging);
     return 0;
 }

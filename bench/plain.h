@@ -1,4 +1,5 @@
-/* What the proved code is measured against: the same work in C, tuned by hand and without judging. */
+/* What the proved code is measured against: the same work in C, tuned by hand. Each operation answers as the archive's does, on acceptance and refusal
+ * alike; only `plain_scan` and `plain_walk` take what was judged before. */
 #ifndef PLAIN_H
 #define PLAIN_H
 
@@ -6,23 +7,54 @@
 #include <stdint.h>
 #include <string.h>
 
+#include "kamordast.h"
+
 static inline uint16_t plain_number16(const uint8_t *at) {
     uint16_t x;
     memcpy(&x, at, 2);
     return x;
 }
 
+static inline uint32_t plain_number32(const uint8_t *at) {
+    uint32_t x;
+    memcpy(&x, at, 4);
+    return x;
+}
+
+static inline void plain_put16(uint8_t *at, uint32_t x) { memcpy(at, &(uint16_t){(uint16_t)x}, 2); }
+
+static inline void plain_put32(uint8_t *at, uint32_t x) { memcpy(at, &x, 4); }
+
+/* Parts that the operations share: ground 7, and the check word of RFC 1071. */
+int plain_classes_bad(const uint8_t *classes, size_t k);
+uint16_t plain_check_word(const uint8_t *bytes, size_t length);
+
+/* The states, each after its default. */
 typedef struct {
-    uint32_t taken, state, reports, hops;
-} plain_scanned;
+    uint16_t order[512];    /* the state at each place */
+    uint16_t fallback[512]; /* the place of its default; n for a root */
+    uint32_t depth;         /* the longest chain */
+} plain_chains;
 
-/* The defaults of the bounded greedy forest of an accepted table. */
-void plain_defaults(const uint8_t *table, size_t length, uint32_t bound, uint16_t *defaults);
+/* Fills the chains and answers 1; 0 where a chain returns to a state. */
+int plain_order(const uint16_t *defaults, size_t n, plain_chains *chains);
 
-/* Compact in C: the defaults, and the image of the table with them; answers the image's length. */
-size_t plain_compact(const uint8_t *table, size_t length, uint32_t bound, uint8_t *room);
+/* The defaults of the bounded greedy forest of an accepted table. `seeking` tells how the pairs of one weight are found (plain_forest.c). */
+void plain_defaults(const uint8_t *table, size_t length, uint32_t bound, int seeking, uint16_t *defaults);
+
+/* The image of an accepted table with defaults, or refusal 16. */
+kamordast_built plain_image(const uint8_t *table, size_t length, const uint16_t *defaults, const plain_chains *chains, uint8_t *room, size_t room_length);
+
+uint32_t plain_judge_table(const uint8_t *table, size_t length);
+uint32_t plain_judge_image(const uint8_t *image, size_t length);
+kamordast_built plain_compact(const uint8_t *table, size_t length, uint32_t bound, int seeking, uint8_t *room, size_t room_length);
+kamordast_built plain_write(const uint8_t *table, size_t length, const uint8_t *list, size_t list_length, uint8_t *room, size_t room_length);
+kamordast_built plain_expand(const uint8_t *image, size_t length, uint8_t *room, size_t room_length);
 
 /* The walk of a payload through an accepted image. */
-plain_scanned plain_scan(const uint8_t *image, size_t length, uint32_t state, const uint8_t *payload, size_t bytes, uint8_t *room, size_t room_length);
+kamordast_scanned plain_scan(const uint8_t *image, size_t length, uint32_t state, const uint8_t *payload, size_t bytes, uint8_t *room, size_t room_length);
+
+/* The walk of a payload through an accepted table: what is paid without compacting. */
+kamordast_scanned plain_walk(const uint8_t *table, size_t length, uint32_t state, const uint8_t *payload, size_t bytes, uint8_t *room, size_t room_length);
 
 #endif

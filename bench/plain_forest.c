@@ -1,7 +1,6 @@
-/* The bounded greedy forest in plain C, the algorithm of crate `forest` without its proofs: weights kept once, parents turned at each joining. */
+/* The bounded greedy forest in plain C, the algorithm of crate `forest` without its proofs: weights kept once, parents turned at each joining. The pairs of
+ * one weight are found by a test of each pair, as the crate does, or, seeking, by the C library's search for a byte. */
 #include "plain.h"
-
-#include <string.h>
 
 typedef struct {
     uint16_t d[512], parent[512], tree[512];
@@ -42,7 +41,25 @@ static void join(joined_trees *f, size_t n, size_t u, size_t v) {
     f->parent[v] = (uint16_t)u;
 }
 
-void plain_defaults(const uint8_t *table, size_t length, uint32_t bound, uint16_t *defaults) {
+/* Adds a pair if its ends lie in different trees and the joined tree's longest path is within the bound. */
+static inline void try_pair(joined_trees *f, size_t n, uint32_t bound, size_t u, size_t v) {
+    if (f->tree[u] != f->tree[v] && (uint32_t)f->d[u] + f->d[v] + 1 <= bound) join(f, n, u, v);
+}
+
+static void test_each(joined_trees *f, size_t n, uint32_t bound, size_t w) {
+    for (size_t u = 0; u < n; u++)
+        for (size_t v = u + 1; v < n; v++)
+            if (weights[u * 512 + v] == w) try_pair(f, n, bound, u, v);
+}
+
+static void seek(joined_trees *f, size_t n, uint32_t bound, size_t w) {
+    for (size_t u = 0; u < n; u++) {
+        const uint8_t *row = weights + u * 512, *at = row + u;
+        while ((at = memchr(at + 1, (int)w, (size_t)(row + n - at - 1)))) try_pair(f, n, bound, u, (size_t)(at - row));
+    }
+}
+
+void plain_defaults(const uint8_t *table, size_t length, uint32_t bound, int seeking, uint16_t *defaults) {
     size_t n = plain_number16(table), k = plain_number16(table + 2);
     const uint8_t *rows = table + length - 2 * n * k;
     joined_trees f;
@@ -56,10 +73,7 @@ void plain_defaults(const uint8_t *table, size_t length, uint32_t bound, uint16_
         f.d[s] = 0;
         f.parent[s] = f.tree[s] = (uint16_t)s;
     }
-    for (size_t w = k - 1; w > 0; w--)
-        for (size_t u = 0; u < n; u++)
-            for (size_t v = u + 1; v < n; v++)
-                if (weights[u * 512 + v] == w && f.tree[u] != f.tree[v] && (uint32_t)f.d[u] + f.d[v] + 1 <= bound) join(&f, n, u, v);
+    for (size_t w = k - 1; w > 0; w--) (seeking ? seek : test_each)(&f, n, bound, w);
     for (size_t s = 0; s < n; s++) {
         size_t first = s;
         for (size_t x = 0; x < n; x++)

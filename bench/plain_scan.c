@@ -1,22 +1,31 @@
-/* The tuned walk of an image in C: where each state's entries begin is found once, a root is looked up directly, other states are searched in order. */
+/* The tuned walk of an image in C: where each state's entries begin is found once, a root is looked up directly, other states are searched by halving
+ * while more than eight entries are left and then in order. */
 #include "plain.h"
 
-plain_scanned plain_scan(const uint8_t *image, size_t length, uint32_t state, const uint8_t *payload, size_t bytes, uint8_t *room, size_t room_length) {
+/* An entry at most eight before the first whose class is not below the one asked. */
+static const uint8_t *near(const uint8_t *entry, uint32_t count, uint32_t class) {
+    for (uint32_t half = count / 2; count > 8; count -= half, half = count / 2) entry += plain_number16(entry + 4 * half) <= class ? 4 * half : 0;
+    return entry;
+}
+
+kamordast_scanned plain_scan(const uint8_t *image, size_t length, uint32_t state, const uint8_t *payload, size_t bytes, uint8_t *room, size_t room_length) {
     uint32_t n = plain_number16(image), k = plain_number16(image + 2), begins[513];
     const uint8_t *records = image + 268 + 2 * n, *entries = records + 4 * n;
     uint32_t most = (uint32_t)(room_length / 6);
-    plain_scanned run = {0, state, 0, 0};
+    kamordast_scanned run = {0, 0, state, 0, 0};
     (void)length;
     begins[0] = 0;
     for (uint32_t s = 0; s < n; s++) begins[s + 1] = begins[s] + plain_number16(records + 4 * s + 2);
     for (size_t i = 0; i < bytes; i++) {
         uint32_t class = image[12 + payload[i]], s = run.state, hops = run.hops, target;
         for (;;) {
-            const uint8_t *entry = entries + 4 * begins[s], *end = entries + 4 * begins[s + 1];
-            if (begins[s + 1] - begins[s] == k) {
+            uint32_t count = begins[s + 1] - begins[s];
+            const uint8_t *entry = entries + 4 * begins[s], *end = entry + 4 * count;
+            if (count == k) {
                 target = plain_number16(entry + 4 * class + 2);
                 break;
             }
+            if (count > 8) entry = near(entry, count, class);
             while (entry < end && plain_number16(entry) < class) entry += 4;
             if (entry < end && plain_number16(entry) == class) {
                 target = plain_number16(entry + 2);
@@ -29,9 +38,8 @@ plain_scanned plain_scan(const uint8_t *image, size_t length, uint32_t state, co
         if (label) {
             if (most <= run.reports) return run;
             uint8_t *report = room + 6 * run.reports++;
-            uint32_t offset = (uint32_t)i;
-            memcpy(report, &offset, 4);
-            memcpy(report + 4, &(uint16_t){(uint16_t)label}, 2);
+            plain_put32(report, (uint32_t)i);
+            plain_put16(report + 4, label);
         }
         run.state = target;
         run.hops = hops;

@@ -1,0 +1,55 @@
+/* The plain C beside the archive on small tables and images, sound ones and damaged ones: both must accept or refuse alike, with the same result. */
+#include <stdio.h>
+#include <string.h>
+
+#include "plain.h"
+#include "support.h"
+
+enum { CASES = 10000, ROOM = 8192 };
+
+static uint8_t table[ROOM], image[ROOM], list[64], by_archive[ROOM], by_c[ROOM];
+static uint32_t grounds[18];
+
+/* Two answers with their rooms are one. */
+static void same(const char *operation, kamordast_built a, kamordast_built b, uint32_t number) {
+    if (a.refused != b.refused || a.length != b.length || memcmp(by_archive, by_c, ROOM)) fail(operation, number);
+    grounds[a.refused]++;
+}
+
+/* Changes a few bytes between two places, mostly to small numbers. */
+static void damage(uint8_t *bytes, size_t from, size_t to) {
+    for (uint32_t times = below(4); times; times--) bytes[from + below((uint32_t)(to - from))] = (uint8_t)(below(3) ? below(6) : below(256));
+}
+
+int main(void) {
+    seed(3);
+    for (uint32_t number = 0; number < CASES; number++) {
+        uint32_t n = 1 + below(6), k = 1 + below(9), bound = below(8);
+        size_t length = make_table(table, n, k, 100 + below(157)), list_length = 2 * n, room_length = below(8) ? ROOM : below(700);
+        make_defaults(list, n, 200);
+        if (below(4) == 0) set16(list, 2 * below(n), below(n));
+        kamordast_built built = kamordast_write(table, length, list, list_length, image, ROOM);
+        if (below(3) == 0) damage(table, below(8) ? 262 : 0, length);
+        if (below(9) == 0) {
+            length -= below(2);
+            list_length -= below(2);
+        }
+        memset(by_archive, 0, ROOM);
+        memset(by_c, 0, ROOM);
+        same("judge a table", (kamordast_built){kamordast_judge_table(table, length), 0}, (kamordast_built){plain_judge_table(table, length), 0}, number);
+        same("compact", kamordast_compact(table, length, (uint16_t)bound, by_archive, room_length), plain_compact(table, length, bound, number % 2, by_c, room_length), number);
+        same("write", kamordast_write(table, length, list, list_length, by_archive, room_length), plain_write(table, length, list, list_length, by_c, room_length), number);
+        if (built.refused) continue;
+        if (below(3)) damage(image, below(8) ? 268 : 0, built.length - (below(8) ? 12 : 0));
+        if (below(9) == 0) damage(image, 6, 8); /* depth */
+        if (below(9) == 0) damage(image, built.length - 4, built.length - 2); /* worst */
+        if (below(8)) mend_check_word(image, built.length);
+        same("judge an image", (kamordast_built){kamordast_judge_image(image, built.length), 0}, (kamordast_built){plain_judge_image(image, built.length), 0}, number);
+        same("expand", kamordast_expand(image, built.length, by_archive, room_length), plain_expand(image, built.length, by_c, room_length), number);
+    }
+    printf("plain C and the archive agree on %u small cases; answers by number:", (unsigned)CASES);
+    for (uint32_t ground = 0; ground < 18; ground++)
+        if (grounds[ground]) printf(" %u: %u", (unsigned)ground, (unsigned)grounds[ground]);
+    printf("\n");
+    return 0;
+}

@@ -1,0 +1,78 @@
+/* The cases: word lists, the largest tables, and images made to hurt. */
+#include "cases.h"
+
+#include <stdio.h>
+#include <string.h>
+
+#include "hostile.h"
+#include "operations.h"
+#include "word_list.h"
+
+char case_name[96];
+static word_list list;
+
+/* The image that compact makes of the table with a bound, and its defaults as a list for write. */
+static void use_compacted(uint32_t bound) {
+    kamordast_built built = kamordast_compact(given.table, given.table_length, (uint16_t)bound, given.image, sizeof given.image);
+    if (built.refused) fail("the table is refused", built.refused);
+    uint32_t n = number16(given.image, 0);
+    given.bound = bound;
+    given.image_length = built.length;
+    given.defaults_length = 2 * n;
+    for (uint32_t s = 0; s < n; s++) memcpy(given.defaults + 2 * s, given.image + 268 + 2 * n + 4 * s, 2);
+}
+
+/* The image of the table with the list. */
+static void use_written(const char *name) {
+    given.defaults_length = 1024;
+    kamordast_built built = kamordast_write(given.table, given.table_length, given.defaults, 1024, given.image, sizeof given.image);
+    if (built.refused) fail("the table is refused", built.refused);
+    given.image_length = built.length;
+    snprintf(case_name, sizeof case_name, "%s", name);
+}
+
+void use_words(uint32_t k, uint32_t bound) {
+    given.table_length = make_word_list(&list, k, given.table);
+    use_compacted(bound);
+    snprintf(case_name, sizeof case_name, "words, n %u, k %u, D %u", (unsigned)number16(given.table, 0), (unsigned)k, (unsigned)bound);
+}
+
+void use_payload(int near) {
+    size_t end = strlen(case_name);
+    given.state = 0;
+    given.payload_length = sizeof given.payload;
+    make_payload(&list, near, given.payload, given.payload_length);
+    snprintf(case_name + end, sizeof case_name - end, near ? ", near misses" : ", text");
+}
+
+/* The next state in a table of equal rows, or of rows that change little from one state to the next. */
+static uint32_t next_of(const char *shape, uint32_t s, uint32_t c) { return *shape == 'e' || s < c ? 0 : c < s / 2 ? s : 1; }
+
+void use_largest(const char *shape, uint32_t bound) {
+    const uint32_t n = 512, k = 256;
+    seed(7);
+    given.table_length = make_table(given.table, n, k, 200);
+    for (uint32_t s = 0; s < n && *shape != 'r'; s++)
+        for (uint32_t c = 0; c < k; c++) set16(given.table, 262 + 2 * n + 2 * (s * k + c), next_of(shape, s, c));
+    use_compacted(bound);
+    snprintf(case_name, sizeof case_name, "%s rows, n %u, k %u, D %u", shape, (unsigned)n, (unsigned)k, (unsigned)bound);
+}
+
+void use_flat(void) {
+    given.table_length = make_flat(given.table, given.defaults);
+    use_written("to compare: 128 entries a state, flat");
+}
+
+void use_chain(void) {
+    given.table_length = make_chain(given.table, given.defaults);
+    use_written("hostile: the same in one chain of 511");
+}
+
+void use_detour(void) {
+    uint8_t asked;
+    given.table_length = make_detour(given.table, given.defaults, &asked);
+    use_written("hostile: 4,096 bytes, 511 hops each");
+    given.state = 511;
+    given.payload_length = 4096;
+    memset(given.payload, asked, given.payload_length);
+}

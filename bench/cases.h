@@ -1,0 +1,24 @@
+/* The cases of the figures: each fills the inputs of operations.h and names itself. */
+#ifndef CASES_H
+#define CASES_H
+
+#include <stdint.h>
+
+/* What the case at hand is called. */
+extern char case_name[96];
+
+/* The word list of k classes compacted with a bound; and a payload of 65,536 bytes for it, of text or of near misses. */
+void use_words(uint32_t k, uint32_t bound);
+void use_payload(int near);
+
+/* The largest table, n 512 and k 256, with equal, path or random rows, compacted with a bound. */
+void use_largest(const char *shape, uint32_t bound);
+
+/* Images of 512 states with 128 entries each, to judge: all states fall to the root; all in one chain. */
+void use_flat(void);
+void use_chain(void);
+
+/* An image and 4,096 bytes of payload that take 511 hops a byte. */
+void use_detour(void);
+
+#endif

@@ -1,0 +1,18 @@
+/* Tables and lists of defaults, n 512 and k 256, whose images are valid and made to hurt, and one to compare with. Each answers the table's length and
+ * fills the list. */
+#ifndef HOSTILE_H
+#define HOSTILE_H
+
+#include <stddef.h>
+#include <stdint.h>
+
+/* Ordinary: every state but the root stores 128 entries and falls to the root. */
+size_t make_flat(uint8_t *table, uint8_t *defaults);
+
+/* The same number of entries, but each state falls to the one before it: one chain of 511 steps. */
+size_t make_chain(uint8_t *table, uint8_t *defaults);
+
+/* One chain of states that store every class but one, and the byte of that one: 511 hops for each such byte, from state 511. */
+size_t make_detour(uint8_t *table, uint8_t *defaults, uint8_t *asked);
+
+#endif

@@ -1,0 +1,57 @@
+/* Each operation as two actions, one by the archive and one by plain C. */
+#include "operations.h"
+
+#include <string.h>
+
+#include "plain.h"
+
+inputs given;
+outcome by_archive, by_c;
+
+static kamordast_scanned answered(uint32_t refused) { return (kamordast_scanned){refused, 0, 0, 0, 0}; }
+
+static kamordast_scanned built(kamordast_built b) { return (kamordast_scanned){b.refused, b.length, 0, 0, 0}; }
+
+#define TABLE given.table, given.table_length
+#define IMAGE given.image, given.image_length
+#define DEFAULTS given.defaults, given.defaults_length
+#define PAYLOAD given.state, given.payload, given.payload_length
+#define ROOM(outcome) outcome.room, sizeof outcome.room
+
+static void judge_table_archive(void) { by_archive.numbers = answered(kamordast_judge_table(TABLE)); }
+static void judge_table_c(void) { by_c.numbers = answered(plain_judge_table(TABLE)); }
+
+static void judge_image_archive(void) { by_archive.numbers = answered(kamordast_judge_image(IMAGE)); }
+static void judge_image_c(void) { by_c.numbers = answered(plain_judge_image(IMAGE)); }
+
+static void compact_archive(void) { by_archive.numbers = built(kamordast_compact(TABLE, (uint16_t)given.bound, ROOM(by_archive))); }
+static void compact_c(void) { by_c.numbers = built(plain_compact(TABLE, given.bound, 0, ROOM(by_c))); }
+static void compact_c_seeking(void) { by_c.numbers = built(plain_compact(TABLE, given.bound, 1, ROOM(by_c))); }
+
+static void write_archive(void) { by_archive.numbers = built(kamordast_write(TABLE, DEFAULTS, ROOM(by_archive))); }
+static void write_c(void) { by_c.numbers = built(plain_write(TABLE, DEFAULTS, ROOM(by_c))); }
+
+static void expand_archive(void) { by_archive.numbers = built(kamordast_expand(IMAGE, ROOM(by_archive))); }
+static void expand_c(void) { by_c.numbers = built(plain_expand(IMAGE, ROOM(by_c))); }
+
+static void scan_archive(void) { by_archive.numbers = kamordast_scan(IMAGE, PAYLOAD, ROOM(by_archive)); }
+static void scan_c(void) { by_c.numbers = plain_scan(IMAGE, PAYLOAD, ROOM(by_c)); }
+
+static void judge_and_scan_c(void) {
+    uint32_t refused = plain_judge_image(IMAGE);
+    by_c.numbers = refused ? answered(refused) : plain_scan(IMAGE, PAYLOAD, ROOM(by_c));
+}
+
+const operation judging_a_table = {"judge a table", judge_table_archive, judge_table_c, NULL};
+const operation judging_an_image = {"judge an image", judge_image_archive, judge_image_c, NULL};
+const operation compact = {"compact", compact_archive, compact_c, NULL};
+const operation compact_seeking = {"compact, C seeking", compact_archive, compact_c_seeking, NULL};
+const operation write_with_a_list = {"write", write_archive, write_c, NULL};
+const operation expand = {"expand", expand_archive, expand_c, NULL};
+const operation scan = {"scan, no judging", scan_archive, scan_c, judge_image_archive};
+const operation scan_with_judging = {"scan with judging", scan_archive, judge_and_scan_c, NULL};
+
+void compare(const operation *o) {
+    if (by_archive.numbers.refused) fail(o->name, by_archive.numbers.refused);
+    if (memcmp(&by_archive, &by_c, sizeof by_c)) fail("the archive and C differ", by_archive.numbers.taken);
+}

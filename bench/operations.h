@@ -1,0 +1,35 @@
+/* The operations on one set of inputs, by the archive and by plain C, each into an outcome of its own. */
+#ifndef OPERATIONS_H
+#define OPERATIONS_H
+
+#include "kamordast.h"
+#include "measure.h"
+#include "support.h"
+
+typedef struct {
+    uint8_t table[LONGEST_TABLE], image[LONGEST_IMAGE], defaults[1024], payload[65536];
+    size_t table_length, image_length, defaults_length, payload_length;
+    uint32_t bound, state;
+} inputs;
+
+/* All numbers of an answer, and the room: what compact, write and expand built has its length in `taken`. */
+typedef struct {
+    kamordast_scanned numbers;
+    uint8_t room[LONGEST_IMAGE];
+} outcome;
+
+extern inputs given;
+extern outcome by_archive, by_c;
+
+/* An operation; `less` is what is to be taken off the archive's figures, or NULL. */
+typedef struct {
+    const char *name;
+    action *archive, *c, *less;
+} operation;
+
+extern const operation judging_a_table, judging_an_image, compact, compact_seeking, write_with_a_list, expand, scan, scan_with_judging;
+
+/* Ends the program where the archive and C do not have the same outcome, or refuse. */
+void compare(const operation *o);
+
+#endif

@@ -1,0 +1,67 @@
+/* The image of a table with defaults in C. Counts and the worst are found for 16 classes at a time, the states each after its default. */
+#include "plain.h"
+
+enum { BLOCK = 16 };
+
+/* How many entries each state keeps, and the worst. */
+static uint32_t tally(const uint8_t *rows, const plain_chains *chains, size_t n, size_t k, uint16_t *counts) {
+    int16_t hops[512][BLOCK], most = 0;
+    memset(counts, 0, 2 * n);
+    for (size_t first = 0; first < k; first += BLOCK) {
+        size_t width = k - first < BLOCK ? k - first : BLOCK;
+        for (size_t i = 0; i < n; i++) {
+            size_t s = chains->order[i], fallback = chains->fallback[i];
+            uint16_t kept = 0;
+            if (fallback == n) {
+                memset(hops[i], 0, sizeof hops[i]);
+                counts[s] = (uint16_t)k;
+                continue;
+            }
+            const uint8_t *own = rows + 2 * (s * k + first), *other = rows + 2 * (chains->order[fallback] * k + first);
+            for (size_t j = 0; j < width; j++) {
+                int differs = plain_number16(own + 2 * j) != plain_number16(other + 2 * j);
+                int16_t steps = differs ? 0 : (int16_t)(hops[fallback][j] + 1);
+                hops[i][j] = steps;
+                most = steps > most ? steps : most;
+                kept = (uint16_t)(kept + differs);
+            }
+            counts[s] = (uint16_t)(counts[s] + kept);
+        }
+    }
+    return (uint32_t)most;
+}
+
+/* Writes the entries of a state; answers the place behind them. What is not kept is written over. */
+static uint8_t *put_row(const uint8_t *own, const uint8_t *other, size_t k, uint8_t *entry) {
+    for (size_t c = 0; c < k; c++) {
+        uint32_t next = plain_number16(own + 2 * c);
+        plain_put32(entry, (uint32_t)c | next << 16);
+        entry += !other || next != plain_number16(other + 2 * c) ? 4 : 0;
+    }
+    return entry;
+}
+
+kamordast_built plain_image(const uint8_t *table, size_t length, const uint16_t *defaults, const plain_chains *chains, uint8_t *room, size_t room_length) {
+    size_t n = plain_number16(table), k = plain_number16(table + 2), m = 0;
+    const uint8_t *rows = table + length - 2 * n * k;
+    uint16_t counts[512];
+    uint32_t worst = tally(rows, chains, n, k, counts);
+    for (size_t s = 0; s < n; s++) m += counts[s];
+    size_t whole = 280 + 6 * n + 4 * m;
+    if (room_length < whole) return (kamordast_built){16, 0};
+    memcpy(room, table, 6);
+    plain_put16(room + 6, chains->depth);
+    plain_put32(room + 8, (uint32_t)m);
+    memcpy(room + 12, table + 6, 256 + 2 * n);
+    uint8_t *records = room + 268 + 2 * n, *entry = records + 4 * n;
+    for (size_t s = 0; s < n; s++) {
+        plain_put16(records + 4 * s, defaults[s]);
+        plain_put16(records + 4 * s + 2, counts[s]);
+        entry = put_row(rows + 2 * s * k, defaults[s] == 65535 ? NULL : rows + 2 * defaults[s] * k, k, entry);
+    }
+    plain_put32(entry, (uint32_t)(4 * m + 12));
+    plain_put32(entry + 4, (uint32_t)whole);
+    plain_put16(entry + 8, worst);
+    plain_put16(entry + 10, plain_check_word(room, whole - 2));
+    return (kamordast_built){0, (uint32_t)whole};
+}
