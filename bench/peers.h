@@ -1,0 +1,36 @@
+/* A peer: another way to find the words of a list in a payload. */
+#ifndef PEERS_H
+#define PEERS_H
+
+#include <stddef.h>
+#include <stdint.h>
+
+#include "word_list.h"
+
+/* What a peer counts. ENDS: the offsets at which some word ends. APART: the matches from left to right, the longest at each place, none overlapping. */
+typedef enum { ENDS, APART } counts;
+
+typedef struct {
+    const char *name;
+    counts kind;
+    size_t (*prepare)(const word_list *list); /* makes its form of the words; answers the form's bytes, 0 for not known before a scan */
+    void (*scan)(void);                       /* scans the payload and sets found */
+    void (*less)(void);                       /* what is to be taken off its time, or NULL */
+    size_t (*size)(void);                     /* the form's bytes after a scan, or NULL */
+} peer;
+
+#ifdef __cplusplus
+extern "C" {
+#endif
+
+extern uint8_t peer_payload[65536];
+extern size_t peer_found;
+
+/* The peers that a program has; the last has no name. */
+extern const peer peers_here[];
+
+#ifdef __cplusplus
+}
+#endif
+
+#endif
