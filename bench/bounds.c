@@ -1,0 +1,37 @@
+/* Size and hops against the bound: for each table named, compacts it with bounds 0 to 12 and with 65535, which binds nothing. Prints the file, n, k, the bound,
+ * the table's and the image's bytes, and the hops on average over all pairs of a state and a byte. */
+#include <stdio.h>
+
+#include "kamordast.h"
+#include "support.h"
+
+static uint8_t table[LONGEST_TABLE + 1], image[LONGEST_IMAGE];
+
+/* A pair's hops are those that the archive's scan of that one byte answers; bytes of one class are alike, so one of them is scanned. */
+static double average_hops(size_t image_length) {
+    uint32_t n = number16(table, 0), alike[256] = {0}, hops = 0;
+    uint8_t one[256], report[6];
+    for (uint32_t x = 0; x < 256; x++) {
+        alike[table[6 + x]]++;
+        one[table[6 + x]] = (uint8_t)x;
+    }
+    for (uint32_t s = 0; s < n; s++)
+        for (uint32_t c = 0; c < number16(table, 2); c++) hops += alike[c] * kamordast_scan(image, image_length, s, &one[c], 1, report, sizeof report).hops;
+    return hops / (256.0 * n);
+}
+
+int main(int count, char **names) {
+    for (int i = 1; i < count; i++) {
+        FILE *file = fopen(names[i], "rb");
+        if (!file) fail(names[i], 0);
+        size_t length = fread(table, 1, sizeof table, file);
+        fclose(file);
+        for (uint32_t bound = 0; bound <= 13; bound++) {
+            uint16_t taken = bound == 13 ? 65535 : (uint16_t)bound;
+            kamordast_built built = kamordast_compact(table, length, taken, image, sizeof image);
+            if (built.refused) fail(names[i], built.refused);
+            printf("%s %u %u %u %zu %u %.6f\n", names[i], (unsigned)number16(table, 0), (unsigned)number16(table, 2), (unsigned)taken, length, (unsigned)built.length, average_hops(built.length));
+        }
+    }
+    return 0;
+}

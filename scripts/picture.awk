@@ -1,0 +1,72 @@
+# Draws docs/size-and-hops.svg from the lines of bench/bounds.c: file, n, k, bound, table bytes, image bytes, hops on average.
+BEGIN {
+    split("#0072b2 #d55e00 #007a5a", colour, " ")
+    top = 74; high = 280; step = 23
+}
+!($1 in number) {
+    number[$1] = ++tables
+    name[tables] = $1
+    sub(/.*\//, "", name[tables])
+    sub(/\.table$/, "", name[tables])
+    told[tables] = $2 " states, " $3 " classes, plain table " $5 " bytes"
+}
+{
+    t = number[$1]
+    slot = $4 > 12 ? 14 : $4
+    share[t, slot] = 100 * $6 / $5
+    hops[t, slot] = $7
+}
+function text(x, y, how, words) { printf "  <text x=\"%.1f\" y=\"%.1f\" %s>%s</text>\n", x, y, how, words }
+function stroke(x1, y1, x2, y2, how) { printf "  <line x1=\"%.1f\" y1=\"%.1f\" x2=\"%.1f\" y2=\"%.1f\" %s/>\n", x1, y1, x2, y2, how }
+# The mark of a table: a disc, a square, a triangle.
+function mark(t, x, y) {
+    if (t == 1) printf "  <circle cx=\"%.1f\" cy=\"%.1f\" r=\"3.8\" fill=\"%s\"/>\n", x, y, colour[t]
+    else if (t == 2) printf "  <rect x=\"%.1f\" y=\"%.1f\" width=\"7\" height=\"7\" fill=\"%s\"/>\n", x - 3.5, y - 3.5, colour[t]
+    else printf "  <path d=\"M %.1f %.1f l 4.6 8 h -9.2 z\" fill=\"%s\"/>\n", x, y - 5, colour[t]
+}
+function across(left, slot) { return left + 14 + step * slot }
+function up(value, most) { return top + high - high * (value > most ? most : value) / most }
+# Axes, grid and labels of one panel.
+function panel(left, most, each, unit, title,    value, slot, right) {
+    right = across(left, 14) + 14
+    text(left, top - 34, "font-size=\"15\" font-weight=\"bold\"", title)
+    for (value = 0; value <= most; value += each) {
+        stroke(left, up(value, most), right, up(value, most), "stroke=\"" (value ? "#dddddd" : "#333333") "\"")
+        text(left - 8, up(value, most) + 4, "text-anchor=\"end\"", value unit)
+    }
+    for (slot = 0; slot <= 14; slot++) {
+        if (slot == 13) continue
+        stroke(across(left, slot), top + high, across(left, slot), top + high + 5, "stroke=\"#333333\"")
+        text(across(left, slot), top + high + 19, "text-anchor=\"middle\"", slot == 14 ? "none" : slot)
+    }
+    stroke(left, top, left, top + high, "stroke=\"#333333\"")
+    text((left + right) / 2, top + high + 39, "text-anchor=\"middle\"", "bound D (none: 65535, which binds nothing)")
+}
+# The line of one table: whole from D 0 to 12, dotted to the case without a bound. A value above the axis is written beside its mark.
+function curve(left, most, t, of,    slot, path) {
+    for (slot = 0; slot <= 12; slot++) path = path sprintf("%s%.1f %.1f", slot ? " L " : "M ", across(left, slot), up(of[t, slot], most))
+    printf "  <path d=\"%s\" fill=\"none\" stroke=\"%s\" stroke-width=\"2\"/>\n", path, colour[t]
+    stroke(across(left, 12), up(of[t, 12], most), across(left, 14), up(of[t, 14], most), "stroke=\"" colour[t] "\" stroke-width=\"2\" stroke-dasharray=\"2 4\"")
+    for (slot = 0; slot <= 14; slot++) if (slot != 13) mark(t, across(left, slot), up(of[t, slot], most))
+    if (of[t, 14] > most) text(across(left, 14) + 4, up(most, most) - 9, "text-anchor=\"end\" fill=\"" colour[t] "\"", sprintf("%.1f, above the axis", of[t, 14]))
+}
+END {
+    print "<svg xmlns=\"http://www.w3.org/2000/svg\" viewBox=\"0 0 900 496\" width=\"900\" height=\"496\" font-family=\"sans-serif\" font-size=\"12\" fill=\"#222222\">"
+    print "  <title>Size and hops against the bound D</title>"
+    print "  <rect width=\"900\" height=\"496\" fill=\"#ffffff\"/>"
+    panel(66, 200, 25, "%", "Image, as a share of the plain table")
+    stroke(66, up(100, 200), across(66, 14) + 14, up(100, 200), "stroke=\"#555555\" stroke-dasharray=\"6 4\"")
+    text(across(66, 14) + 12, up(100, 200) + 14, "text-anchor=\"end\" font-size=\"11\" fill=\"#555555\"", "the plain table")
+    for (t = 1; t <= tables; t++) curve(66, 200, t, share)
+    panel(510, 3.5, 0.5, "", "Hops for a byte, on average")
+    for (t = 1; t <= tables; t++) curve(510, 3.5, t, hops)
+    for (t = 1; t <= tables; t++) {
+        stroke(66, 412 + 20 * t, 94, 412 + 20 * t, "stroke=\"" colour[t] "\" stroke-width=\"2\"")
+        mark(t, 80, 412 + 20 * t)
+        text(102, 416 + 20 * t, "", name[t] ": " told[t])
+    }
+    text(510, 436, "", "Hops are averaged over all pairs of a state and a byte,")
+    text(510, 456, "", "each counted once; a payload may meet more or fewer.")
+    text(510, 476, "", "A dotted line leads to the case without a bound.")
+    print "</svg>"
+}
