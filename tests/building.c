@@ -1,5 +1,5 @@
 /* Write, expand and compact against the independent reading: random tables and lists, valid and damaged, rooms exact, one short, longer and empty.
- * Rooms end at a guard page; every byte of every room and every lent byte is compared. */
+ * Buffers begin or end at a guard page, by turns; every byte of every room and every lent byte is compared. */
 #include <stdio.h>
 #include <string.h>
 
@@ -16,7 +16,7 @@ enum operation { WRITE, EXPAND, COMPACT };
 
 /* Runs an operation in guarded buffers with a room of 170s and compares the answer and every byte. Answers the result's length. */
 static size_t compared(enum operation o, const uint8_t *input, size_t length, size_t list_length, uint32_t bound, size_t room_length) {
-    uint8_t *in = at_end(&lent_input, length), *list = at_end(&lent_list, list_length), *room = at_end(&lent_room, room_length);
+    uint8_t *in = at_either(&lent_input, length, cases), *list = at_either(&lent_list, list_length, cases), *room = at_either(&lent_room, room_length, cases);
     memcpy(in, input, length);
     memcpy(list, defaults, list_length);
     memset(room, 170, room_length);

@@ -1,4 +1,5 @@
-/* The scan against the independent reading: random images, states, payloads and rooms, and the edges of payload and room. */
+/* The scan against the independent reading: random images, states, payloads and rooms, and the edges of payload and room. Buffers begin or end at
+ * a guard page, by turns. */
 #include <stdio.h>
 #include <string.h>
 
@@ -12,7 +13,7 @@ static uint64_t cases;
 static uint64_t given[18];
 
 static kamordast_scanned compared(size_t length, uint32_t state, size_t payload_length, size_t room_length) {
-    uint8_t *in = at_end(&lent_image, length), *bytes = at_end(&lent_payload, payload_length), *room = at_end(&lent_room, room_length);
+    uint8_t *in = at_either(&lent_image, length, cases), *bytes = at_either(&lent_payload, payload_length, cases), *room = at_either(&lent_room, room_length, cases);
     memcpy(in, image, length);
     memcpy(bytes, payload, payload_length);
     memset(room, 170, room_length);

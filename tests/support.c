@@ -80,6 +80,7 @@ guarded guard(size_t most) {
 
 uint8_t *at_end(const guarded *g, size_t length) { return g->pages + g->size - length; }
 uint8_t *at_start(const guarded *g) { return g->pages; }
+uint8_t *at_either(const guarded *g, size_t length, uint64_t turn) { return turn / 5 % 2 ? at_start(g) : at_end(g, length); }
 
 void fail(const char *sentence, uint64_t number) {
     printf("failed: %s (case %llu)\n", sentence, (unsigned long long)number);

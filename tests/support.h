@@ -1,4 +1,4 @@
-/* What the tests share: a seeded source of numbers, tables and lists of defaults at random, and buffers that end at a guard page. */
+/* What the tests share: a seeded source of numbers, tables and lists of defaults at random, and buffers between guard pages. */
 #ifndef SUPPORT_H
 #define SUPPORT_H
 
@@ -37,6 +37,8 @@ typedef struct {
 guarded guard(size_t most);
 uint8_t *at_end(const guarded *g, size_t length);
 uint8_t *at_start(const guarded *g);
+/* At the end or at the start, by turns of five. */
+uint8_t *at_either(const guarded *g, size_t length, uint64_t turn);
 
 /* Ends the test with the sentence, the case's number and status 1. */
 void fail(const char *sentence, uint64_t number);
