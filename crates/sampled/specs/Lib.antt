@@ -1,0 +1,16 @@
+pub mod Row
+pub mod Sample1
+pub mod Sample2
+pub mod Sample3
+pub mod Sample4
+pub mod Sample5
+pub mod Sample6
+pub mod Sample7
+pub mod Sample8
+pub mod Sample9
+pub mod Sample10
+pub mod Sample11
+pub mod Sample12
+pub mod Sample13
+pub mod Sample14
+pub mod Sample15
