@@ -1,18 +1,18 @@
 -- An accepted image as plain facts, and back.
 use mathlib.Core.Path.{_≡_, refl}
-use mathlib.Core.Bool.{_||_}
 use mathlib.Core.List.{List}
 use Prim.Native.Nat.{ℕ, _+_, _-_, _*_, _≤_, _<_}
 use native.Mathlib.Omega.{arith}
 use lib.ListN.{length, take}
 use borrow.Author.Tests.{leb-false, le-ltb, lt-leb}
-use Rattle.paper.specs.Below.{differ, outside}
+use Rattle.paper.specs.Below.{differ}
 use Rattle.paper.specs.Words.{words, checkWord}
 use Rattle.paper.specs.View.{viewGrounds}
 use Rattle.paper.specs.Image.{states, classes, start, depth, entries, classOf, distanceBack, wholeLength, worst, check, imageLength, imageView, imageGrounds}
 use Rattle.paper.specs.Operations.{judgeImage}
 use Rattle.paper.proofs.Refusals.{Clear, accepted, cleared}
-use Rattle.paper.proofs.Tests.{or-both, or-neither, not-differ, same-differ, not-outside, within-outside}
+use Rattle.paper.proofs.Tests.{or-both, or-neither, not-differ, same-differ}
+use Rattle.facts.proofs.CountFacts.{AllInRange, all-in-range, all-in-range-clear}
 use Rattle.facts.proofs.TableFacts.{Classed, classed, classed-clear}
 use Rattle.facts.proofs.ViewFacts.{Sound, Stated, view-facts, view-clear}
 
@@ -33,26 +33,30 @@ pub record AcceptedImage (b : List ℕ) : Type 0 where
   pub right : Sound (imageView b)
   pub stated : Stated (imageView b) (classOf b) (entries b) (depth b) (worst b)
 
+-- Its counts are in range.
+pub image-range : (b : List ℕ) → AcceptedImage b → AllInRange (states b) (classes b) (entries b)
+image-range b A = record {
+  counts = record { some-states = A .some-states; few-states = A .few-states; some-classes = A .some-classes; few-classes = A .few-classes };
+  enough = A .enough;
+  not-many = A .not-many;
+}
+
 image-facts : (b : List ℕ) → Clear (imageGrounds b) → AcceptedImage b
 unfolding imageGrounds
 image-facts b (_, (g₂, (g₃, (g₄, (g₅, (g₆, (g₇, view))))))) =
     let n = states b in
     let k = classes b in
     let m = entries b in
-    let (ns, others) = or-both (outside 1 512 n) (outside 1 256 k || outside k (n * k) m) g₂ in
-    let (ks, ms) = or-both (outside 1 256 k) (outside k (n * k) m) others in
-    let (n₁, n₂) = not-outside 1 512 n ns in
-    let (k₁, k₂) = not-outside 1 256 k ks in
-    let (m₁, m₂) = not-outside k (n * k) m ms in
+    let R = all-in-range n k m g₂ in
     let (wholes, backs) = or-both (differ (wholeLength b) (length b)) (differ (distanceBack b) (4 * m + 12)) g₄ in
     let (sound, states-so) = view-facts (imageView b) (classOf b) m (depth b) (worst b) view in
     record {
-      some-states = n₁;
-      few-states = n₂;
-      some-classes = k₁;
-      few-classes = k₂;
-      enough = m₁;
-      not-many = m₂;
+      some-states = R .counts .some-states;
+      few-states = R .counts .few-states;
+      some-classes = R .counts .some-classes;
+      few-classes = R .counts .few-classes;
+      enough = R .enough;
+      not-many = R .not-many;
       long = not-differ (length b) (imageLength n m) g₃;
       whole = not-differ (wholeLength b) (length b) wholes;
       distance = not-differ (distanceBack b) (4 * m + 12) backs;
@@ -72,8 +76,7 @@ image-clear b A =
     let m = entries b in (
       le-ltb (length b) 24 (omega (arith, A .long)),
       (
-        or-neither (outside 1 512 n) (outside 1 256 k || outside k (n * k) m) (within-outside 1 512 n (A .some-states) (A .few-states))
-            (or-neither (outside 1 256 k) (outside k (n * k) m) (within-outside 1 256 k (A .some-classes) (A .few-classes)) (within-outside k (n * k) m (A .enough) (A .not-many))),
+        all-in-range-clear (image-range b A),
         (
           same-differ (length b) (imageLength n m) (A .long),
           (

@@ -1,3 +1,4 @@
+pub mod CountFacts
 pub mod TableFacts
 pub mod EntryFacts
 pub mod ViewFacts

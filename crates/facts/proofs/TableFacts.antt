@@ -7,13 +7,14 @@ use native.Mathlib.Omega.{arith}
 use lib.Dec.{leb, eqb}
 use lib.ListN.{length}
 use borrow.Author.Tests.{leb-false, le-ltb, lt-leb, not-false, eqb-true, eq-eqb}
-use Rattle.paper.specs.Below.{any, outside}
+use Rattle.paper.specs.Below.{any}
 use Rattle.paper.specs.Table.{states, classes, start, classOf, next, classesBad, tableLength, tableGrounds}
 use Rattle.paper.specs.Operations.{judgeTable}
 use Rattle.paper.specs.Sentences.{Some}
 use Rattle.paper.proofs.Below.{any-at, any-none, any-found, any-some}
 use Rattle.paper.proofs.Refusals.{Clear, accepted, cleared}
-use Rattle.paper.proofs.Tests.{or-both, or-neither, not-differ, same-differ, not-outside, within-outside}
+use Rattle.paper.proofs.Tests.{or-both, or-neither, not-differ, same-differ}
+use Rattle.facts.proofs.CountFacts.{InRange, in-range, in-range-clear}
 
 -- Each of so many bytes has a class below k, and each class below k has a byte.
 pub record Classed (bytes k : ℕ) (classOf : ℕ → ℕ) : Type 0 where
@@ -62,19 +63,21 @@ pub record AcceptedTable (t : List ℕ) : Type 0 where
   pub all-classed : Classed 256 (classes t) (classOf t)
   pub inside : (s c : ℕ) → s < states t → c < classes t → next t s c < states t
 
+-- Its counts are in range.
+table-range : (t : List ℕ) → AcceptedTable t → InRange (states t) (classes t)
+table-range t A = record { some-states = A .some-states; few-states = A .few-states; some-classes = A .some-classes; few-classes = A .few-classes }
+
 table-facts : (t : List ℕ) → Clear (tableGrounds t) → AcceptedTable t
 unfolding tableGrounds
 table-facts t (_, (g₂, (g₃, (g₆, (g₇, (g₁₀, _)))))) =
     let n = states t in
     let k = classes t in
-    let (ns, ks) = or-both (outside 1 512 n) (outside 1 256 k) g₂ in
-    let (n₁, n₂) = not-outside 1 512 n ns in
-    let (k₁, k₂) = not-outside 1 256 k ks in
+    let R = in-range n k g₂ in
     record {
-      some-states = n₁;
-      few-states = n₂;
-      some-classes = k₁;
-      few-classes = k₂;
+      some-states = R .some-states;
+      few-states = R .few-states;
+      some-classes = R .some-classes;
+      few-classes = R .few-classes;
       long = not-differ (length t) (tableLength n k) g₃;
       begins = leb-false n (start t) g₆;
       all-classed = classed k (classOf t) g₇;
@@ -89,7 +92,7 @@ table-clear t A =
     let k = classes t in (
       le-ltb (length t) 6 (omega (arith, A .long)),
       (
-        or-neither (outside 1 512 n) (outside 1 256 k) (within-outside 1 512 n (A .some-states) (A .few-states)) (within-outside 1 256 k (A .some-classes) (A .few-classes)),
+        in-range-clear (table-range t A),
         (
           same-differ (length t) (tableLength n k) (A .long),
           (

@@ -1,17 +1,14 @@
 -- An image to which none of the first ten grounds applies has passed them.
 use mathlib.Core.Path.{_≡_, refl}
-use mathlib.Core.Bool.{_||_}
 use mathlib.Core.List.{List}
-use Prim.Native.Nat.{ℕ, _*_}
-use native.Mathlib.Nat.{mul-le-mul}
-use native.Mathlib.Omega.{arith}
+use Prim.Native.Nat.{ℕ}
 use lib.ListN.{length}
-use Rattle.paper.specs.Below.{outside}
 use Rattle.paper.specs.Image.{states, classes, entries, classOf, imageLength, imageView, imageGrounds}
 use Rattle.paper.specs.View.{viewGrounds}
 use Rattle.paper.specs.Refusals.{first}
 use Rattle.paper.proofs.Refusals.{Clear, accepted}
-use Rattle.paper.proofs.Tests.{or-both, not-differ, not-outside}
+use Rattle.paper.proofs.Tests.{not-differ}
+use Rattle.facts.proofs.CountFacts.{all-in-range, few-entries}
 use Rattle.facts.proofs.TableFacts.{classed}
 use Rattle.facts.proofs.EntryFacts.{entered}
 use Rattle.image.specs.Grounds.{firstGrounds}
@@ -24,25 +21,21 @@ passed b (_, (g₂, (g₃, (_, (_, (_, (g₇, (g₈, (g₉, (g₁₀, _)))))))))
     let n = states b in
     let k = classes b in
     let m = entries b in
-    let (ns, others) = or-both (outside 1 512 n) (outside 1 256 k || outside k (n * k) m) g₂ in
-    let (ks, ms) = or-both (outside 1 256 k) (outside k (n * k) m) others in
-    let (n₁, n₂) = not-outside 1 512 n ns in
-    let (k₁, k₂) = not-outside 1 256 k ks in
-    let (m₁, m₂) = not-outside k (n * k) m ms in
+    let R = all-in-range n k m g₂ in
     let E = entered (imageView b) m g₈ g₉ g₁₀ in
     record {
       states-are = refl;
       classes-are = refl;
       entries-are = refl;
-      some-states = n₁;
-      few-states = n₂;
-      some-classes = k₁;
-      few-classes = k₂;
-      enough = m₁;
-      not-many = m₂;
+      some-states = R .counts .some-states;
+      few-states = R .counts .few-states;
+      some-classes = R .counts .some-classes;
+      few-classes = R .counts .few-classes;
+      enough = R .enough;
+      not-many = R .not-many;
       laid = record {
-        few-states = n₂;
-        few-entries = omega (arith, m₂, mul-le-mul n₂ k₂);
+        few-states = R .counts .few-states;
+        few-entries = few-entries R;
         long = not-differ (length b) (imageLength n m) g₃;
         counted = E .total;
       };

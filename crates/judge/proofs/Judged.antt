@@ -3,7 +3,6 @@ use mathlib.Core.Path.{_≡_, refl}
 use mathlib.Core.Bool.{false, _||_}
 use mathlib.Core.List.{List, [], _∷_}
 use Prim.Native.Nat.{ℕ, _+_, _-_, _*_, _≤_, _<_}
-use native.Mathlib.Nat.{mul-le-mul}
 use native.Mathlib.Omega.{arith}
 use lib.Dec.{ltb, leb}
 use lib.ListN.{length, take}
@@ -14,7 +13,7 @@ use Rattle.paper.specs.Refusals.{Ground, first}
 use Rattle.paper.specs.Table.{classesBad}
 use Rattle.paper.specs.View.{recordBad, entryClassBad, anyEntry, viewGrounds}
 use Rattle.paper.specs.Image.{states, classes, start, entries, classOf, count, distanceBack, wholeLength, check, imageLength, imageView, imageGrounds}
-use Rattle.paper.proofs.Tests.{or-both, not-outside, not-differ}
+use Rattle.paper.proofs.Tests.{or-both, not-differ}
 use Rattle.table.proofs.Decided.{Decided, passed, applies}
 use Rattle.image.specs.Laid.{Laid}
 use Rattle.judge.specs.Counted.{Counted}
@@ -70,21 +69,6 @@ short b h = applies (all-grounds b) (lt-ltb (length b) 24 h)
 pub not-short : (b : List ℕ) (n k m s : ℕ) → 24 ≤ length b → n ≡ states b → k ≡ classes b → m ≡ entries b → s ≡ start b
     → Decided (first (firstGrounds b)) (from2 b n k m s)
 not-short b n k m s h en ek em es = rw (en, ek, em, es) (passed (all-grounds b) (le-ltb (length b) 24 h))
-
--- Counts in range.
-pub record InRange (n k m : ℕ) : Type 0 where
-  pub few-states : n ≤ 512
-  pub few-classes : k ≤ 256
-  pub few-entries : m ≤ 131072
-
--- Where ground 2 does not apply they are.
-pub in-range : (n k m : ℕ) → outside 1 512 n || (outside 1 256 k || outside k (n * k) m) ≡ false → InRange n k m
-in-range n k m e =
-    let (ns, others) = or-both (outside 1 512 n) (outside 1 256 k || outside k (n * k) m) e in
-    let (ks, ms) = or-both (outside 1 256 k) (outside k (n * k) m) others in
-    let few-n = not-outside 1 512 n ns .1 in
-    let few-k = not-outside 1 256 k ks .1 in
-    record { few-states = few-n; few-classes = few-k; few-entries = omega (arith, not-outside k (n * k) m ms .1, mul-le-mul few-n few-k) }
 
 -- Where ground 8 does not apply the records count the entries.
 pub counts-laid : (b : List ℕ) (n m : ℕ) → Counted b n m → any (states b) (recordBad (imageView b)) || differ (sum (states b) (count b)) (entries b) ≡ false → Laid b

@@ -1,6 +1,6 @@
 -- The grounds of a table that are left from each on, for the counts and the start state that were read.
 use mathlib.Core.Path.{_≡_, refl}
-use mathlib.Core.Bool.{false, _||_}
+use mathlib.Core.Bool.{_||_}
 use mathlib.Core.List.{List, [], _∷_}
 use Prim.Native.Nat.{ℕ, _≤_, _<_}
 use lib.Dec.{ltb, leb}
@@ -10,7 +10,6 @@ use Rattle.paper.specs.Below.{any, differ, outside}
 use Rattle.paper.specs.Refusals.{Ground}
 use Rattle.paper.specs.Table.{states, classes, start, classOf, next, tableLength, classesBad, tableGrounds}
 use Rattle.paper.specs.Operations.{judgeTable}
-use Rattle.paper.proofs.Tests.{or-both, not-outside}
 use Rattle.table.proofs.Decided.{Decided, passed, applies}
 
 module _ (t : List ℕ) (n k s : ℕ) where
@@ -47,7 +46,3 @@ short t h = applies (all-grounds t) (lt-ltb (length t) 6 h)
 -- A table of 6 bytes or more, whose counts and start state were read.
 pub not-short : (t : List ℕ) (n k s : ℕ) → 6 ≤ length t → n ≡ states t → k ≡ classes t → s ≡ start t → Decided (judgeTable t) (from2 t n k s)
 not-short t n k s h en ek es = rw (en, ek, es) (passed (all-grounds t) (le-ltb (length t) 6 h))
-
--- Counts in range.
-pub in-range : (n k : ℕ) → outside 1 512 n || outside 1 256 k ≡ false → (n ≤ 512) × (k ≤ 256)
-in-range n k e = let (a, b) = or-both (outside 1 512 n) (outside 1 256 k) e in (not-outside 1 512 n a .1, not-outside 1 256 k b .1)

@@ -6,9 +6,10 @@ use native.Mathlib.Omega.{arith}
 use borrow.Author.Tests.{le-leb, lt-leb}
 use Rattle.paper.specs.Operations.{judgeTable}
 use Rattle.paper.proofs.Tests.{holds-differ, same-differ}
+use Rattle.facts.proofs.CountFacts.{InRange, in-range}
 use Rattle.table.specs.Counted.{Counted}
 use Rattle.table.proofs.Decided.{Decided, passed, applies, none-left}
-use Rattle.table.proofs.Judged.{from2, from3, from6, from7, from10, short, not-short, in-range}
+use Rattle.table.proofs.Judged.{from2, from3, from6, from7, from10, short, not-short}
 use borrow.Author.Needs.{needs}
 use Rattle.table.proofs.judge_table.Statement.{statement}
 use Rattle.table.proofs.judge_table.Tie as tie
@@ -65,16 +66,20 @@ past₆ c = passed (past₃ (c .before)) (lt-leb (N (at₆ c)) (S (at₆ c)) (om
 past₇ : (c : tie.Else5) → Decided (judgeTable (T (at₇ c))) (from10 (T (at₇ c)) (N (at₇ c)) (K (at₇ c)) (S (at₇ c)))
 past₇ c = passed (past₆ (c .before .before)) (sym (c .before .classes-bad .ensures) ∙ c .if5 .left)
 
+-- Past ground 2 the counts are in range.
+ranged : (c : tie.Else2) → InRange (N (at₂ c)) (K (at₂ c))
+ranged c = in-range (N (at₂ c)) (K (at₂ c)) (sym (c .before .counts-bad .ensures) ∙ c .if2 .left)
+
 -- Past ground 3 the table has its counts.
 counted : (c : tie.Else3) → Counted (T (at₃ c)) (N (at₃ c)) (K (at₃ c))
 counted c =
     let r = at₃ c in
-    let (few-n, few-k) = in-range (N r) (K r) (sym (c .before .before .before .counts-bad .ensures) ∙ c .before .before .if2 .left) in
+    let R = ranged (c .before .before) in
     record {
       states-are = r .before .before .get16 .ensures;
       classes-are = r .before .get162 .ensures;
-      few-states = few-n;
-      few-classes = few-k;
+      few-states = R .few-states;
+      few-classes = R .few-classes;
       long = c .if3 .left ∙ c .before .table-length .ensures;
     }
 
@@ -106,7 +111,7 @@ returns-2 : tie.Need-returns-2
 returns-2 c = applies (past₁ (c .before .before)) (sym (c .before .counts-bad .ensures) ∙ c .if2 .taken)
 
 table-length-requires : tie.Need-table-length-requires
-table-length-requires c κs = in-range (N (at₂ c)) (K (at₂ c)) (sym (c .before .counts-bad .ensures) ∙ c .if2 .left)
+table-length-requires c κs = let R = ranged c in (R .few-states, R .few-classes)
 
 returns-3 : tie.Need-returns-3
 returns-3 c = applies (past₂ (c .before .before)) (holds-differ _ _ .1 (λ e. c .if3 .taken (e ∙ sym (c .before .table-length .ensures))))

@@ -7,8 +7,8 @@ use lib.ListN.{length}
 use Rattle.paper.specs.Below.{any}
 use Rattle.paper.proofs.Below.{any-more, any-found}
 use Rattle.judge.specs.Tests.{classWrong}
-use Rattle.judge.proofs.row_bad.Statement.{statement}
-use Rattle.judge.proofs.row_bad.Tie as tie
+use Rattle.judge.proofs.in_entries.row_bad.Statement.{statement}
+use Rattle.judge.proofs.in_entries.row_bad.Tie as tie
 
 abbrev Inv-loop : tie.InvT-loop
 Inv-loop row k count j₀ j = (j ≤ length row / 4) × (any j (classWrong k row) ≡ false)

@@ -1,8 +1,8 @@
 -- A count above k is wrong with and without a default; then the default decides what is tested.
 use borrow.Author.Needs.{needs}
 use Rattle.judge.proofs.Records.{record-high, record-root, record-falls}
-use Rattle.judge.proofs.record_bad.Statement.{statement}
-use Rattle.judge.proofs.record_bad.Tie as tie
+use Rattle.judge.proofs.in_records.record_bad.Statement.{statement}
+use Rattle.judge.proofs.in_records.record_bad.Tie as tie
 
 cast-count : tie.Need-cast-count
 cast-count c = search needs

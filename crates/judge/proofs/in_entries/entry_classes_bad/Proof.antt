@@ -10,8 +10,8 @@ use Rattle.paper.specs.View.{entryClassBad}
 use Rattle.paper.specs.Image.{states, count, imageView}
 use Rattle.paper.proofs.Below.{any-more, any-found}
 use Rattle.judge.proofs.Rows.{row-read}
-use Rattle.judge.proofs.entry_classes_bad.Statement.{statement}
-use Rattle.judge.proofs.entry_classes_bad.Tie as tie
+use Rattle.judge.proofs.in_entries.entry_classes_bad.Statement.{statement}
+use Rattle.judge.proofs.in_entries.entry_classes_bad.Tie as tie
 
 -- Some entry of a state is wrong.
 abbrev wrong : List ℕ → ℕ → Bool

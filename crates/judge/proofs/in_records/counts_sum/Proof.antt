@@ -6,8 +6,8 @@ use borrow.Author.Needs.{needs}
 use Rattle.paper.specs.Below.{sum}
 use Rattle.paper.specs.Image.{count}
 use Rattle.judge.proofs.Records.{sum-more}
-use Rattle.judge.proofs.counts_sum.Statement.{statement}
-use Rattle.judge.proofs.counts_sum.Tie as tie
+use Rattle.judge.proofs.in_records.counts_sum.Statement.{statement}
+use Rattle.judge.proofs.in_records.counts_sum.Tie as tie
 
 abbrev Inv-loop : tie.InvT-loop
 Inv-loop b records n total₀ s₀ total s = (s ≤ n) × (total ≡ sum s (count b)) × (total ≤ 65535 * s)

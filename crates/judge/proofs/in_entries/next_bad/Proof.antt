@@ -7,8 +7,8 @@ use Rattle.paper.specs.Below.{any}
 use Rattle.paper.specs.Image.{entries}
 use Rattle.paper.proofs.Below.{any-more, any-found}
 use Rattle.judge.proofs.Entries.{nextHigh, next-same, next-out, next-in}
-use Rattle.judge.proofs.next_bad.Statement.{statement}
-use Rattle.judge.proofs.next_bad.Tie as tie
+use Rattle.judge.proofs.in_entries.next_bad.Statement.{statement}
+use Rattle.judge.proofs.in_entries.next_bad.Tie as tie
 
 abbrev Inv-loop : tie.InvT-loop
 Inv-loop b n m from j₀ j = (j ≤ m) × (any j (nextHigh b) ≡ false)

@@ -5,8 +5,8 @@ use Rattle.paper.specs.Below.{differ}
 use Rattle.table.proofs.Either.{or-first, or-second}
 use Rattle.judge.specs.Counted.{Records}
 use Rattle.judge.proofs.Records.{records-stand}
-use Rattle.judge.proofs.records_bad.Statement.{statement}
-use Rattle.judge.proofs.records_bad.Tie as tie
+use Rattle.judge.proofs.in_records.records_bad.Statement.{statement}
+use Rattle.judge.proofs.in_records.records_bad.Tie as tie
 
 -- The records stand in the image.
 stand : (c : tie.After-records-at) → Records (c .before .before .args .b .now) (c .before .before .args .n) (c .records-at .result)

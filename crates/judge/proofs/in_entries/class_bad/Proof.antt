@@ -1,8 +1,8 @@
 -- A class below k is held against the one before, where there is one.
 use borrow.Author.Needs.{needs}
 use Rattle.judge.proofs.Rows.{class-high, class-first, class-later}
-use Rattle.judge.proofs.class_bad.Statement.{statement}
-use Rattle.judge.proofs.class_bad.Tie as tie
+use Rattle.judge.proofs.in_entries.class_bad.Statement.{statement}
+use Rattle.judge.proofs.in_entries.class_bad.Tie as tie
 
 mul-get16 : tie.Need-mul-get16
 mul-get16 c = search needs

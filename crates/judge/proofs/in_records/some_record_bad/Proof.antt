@@ -9,8 +9,8 @@ use Rattle.paper.specs.View.{recordBad}
 use Rattle.paper.specs.Image.{states, imageView}
 use Rattle.paper.proofs.Below.{any-more, any-found}
 use Rattle.judge.proofs.Records.{record-read}
-use Rattle.judge.proofs.some_record_bad.Statement.{statement}
-use Rattle.judge.proofs.some_record_bad.Tie as tie
+use Rattle.judge.proofs.in_records.some_record_bad.Statement.{statement}
+use Rattle.judge.proofs.in_records.some_record_bad.Tie as tie
 
 abbrev Inv-loop : tie.InvT-loop
 Inv-loop b records n k s₀ s = (s ≤ n) × (any s (recordBad (imageView b)) ≡ false)
