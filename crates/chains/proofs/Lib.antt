@@ -10,3 +10,4 @@ pub mod Done
 pub mod Depth
 pub mod Agrees
 pub mod Sweeps
+pub mod Fills

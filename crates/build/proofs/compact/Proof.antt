@@ -6,7 +6,7 @@ use native.Mathlib.Omega.{arith}
 use Rattle.paper.specs.Operations.{judgeTable}
 use Rattle.facts.proofs.TableFacts.{accepted-table}
 use Rattle.chains.specs.Orders.{InRange}
-use Rattle.build.proofs.Lists.{list-depth}
+use Rattle.build.proofs.Lists.{list-ordered}
 use Rattle.build.proofs.Chosen.{chosen-range, chosen-ends, compact-judged, compact-deep, compact-fills}
 use Rattle.build.proofs.compact.Statement.{statement}
 use Rattle.build.proofs.compact.Tie as tie
@@ -90,16 +90,7 @@ image-into-requires c κs =
     let chosen = order .before .before in
     let read = chosen .before .before in
     let a = begun (read .before .before) .args in
-    let sorted = order .order-of .ensures .1 (ends order) in (
-      record {
-        accepted = accepted-table (now (a .table)) (accepted (read .before));
-        states-are = read .get16 .ensures;
-        classes-are = chosen .before .get162 .ensures;
-        range = range chosen;
-        first = sorted .1;
-      },
-      list-depth (now (a .table)) (read .get16 .result) (chosen .defaults-of .result) (order .order-of .result .depth) (read .get16 .ensures) (range chosen) (sorted .0),
-    )
+    list-ordered (accepted-table (now (a .table)) (accepted (read .before))) (read .get16 .ensures) (chosen .before .get162 .ensures) (range chosen) (order .order-of .ensures .1 (ends order))
 
 same-length : tie.Need-same-length
 same-length c = c .before .room .given

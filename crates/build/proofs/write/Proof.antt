@@ -7,7 +7,7 @@ use Rattle.paper.specs.Operations.{judgeTable}
 use Rattle.facts.proofs.TableFacts.{accepted-table}
 use Rattle.chains.specs.Orders.{InRange}
 use Rattle.build.specs.Values.{listBad}
-use Rattle.build.proofs.Lists.{list-depth}
+use Rattle.build.proofs.Lists.{list-ordered}
 use Rattle.build.proofs.Listed.{list-long, values-range, write-judged, write-bad, write-endless, write-fills}
 use Rattle.build.proofs.write.Statement.{statement}
 use Rattle.build.proofs.write.Tie as tie
@@ -106,16 +106,7 @@ image-into-requires c κs =
     let values = order .before .before in
     let read = values .before .before .before .before in
     let a = begun (read .before .before) .args in
-    let sorted = order .order-of .ensures .1 (tested .if3 .left) in (
-      record {
-        accepted = accepted-table (now (a .table)) (accepted (read .before));
-        states-are = read .get16 .ensures;
-        classes-are = values .before .before .before .get162 .ensures;
-        range = range values;
-        first = sorted .1;
-      },
-      list-depth (now (a .table)) (read .get16 .result) (values .values-of .result) (order .order-of .result .depth) (read .get16 .ensures) (range values) (sorted .0),
-    )
+    list-ordered (accepted-table (now (a .table)) (accepted (read .before))) (read .get16 .ensures) (values .before .before .before .get162 .ensures) (range values) (order .order-of .ensures .1 (tested .if3 .left))
 
 same-length : tie.Need-same-length
 same-length c = c .before .room .given

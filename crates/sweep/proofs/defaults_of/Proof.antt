@@ -1,19 +1,17 @@
 -- The loop's invariant: the defaults of the states so far are set down.
-use denote.Ref.{now}
 use mathlib.Core.Path.{_≡_, refl, _∙_, ap}
 use Prim.Native.Nat.{_-_, _≤_}
 use native.Mathlib.Omega.{arith}
-use lib.ListN.{length, length-set}
 use borrow.Author.Needs.{needs}
 use Rattle.image.specs.Forms.{numberOf}
 use Rattle.image.specs.declared.Record.{Record}
-use Rattle.paper.proofs.Filled.{Filled, fill-more}
+use Rattle.chains.proofs.Fills.{Fills, fills-none, fills-more}
 use Rattle.sweep.proofs.Defaults.{defaultNumber, records-in, number-read, filled-falls}
 use Rattle.sweep.proofs.defaults_of.Statement.{statement}
 use Rattle.sweep.proofs.defaults_of.Tie as tie
 
 abbrev Inv-loop : tie.InvT-loop
-Inv-loop image n m records def₀ s₀ def s = (s ≤ n) × (length def ≡ 512) × Filled (defaultNumber image) def s
+Inv-loop image n m records def₀ s₀ def s = (s ≤ n) × Fills (defaultNumber image) def s
 
 abbrev μ-loop : tie.MeasureT-loop
 μ-loop image n m records def₀ s₀ def s = n - s
@@ -34,7 +32,7 @@ sub-records-2 : tie.Need-sub-records-2 Inv-loop μ-loop
 sub-records-2 c = omega (arith, records-in (c .before .pre))
 
 loop-holds : tie.Need-loop-holds Inv-loop μ-loop
-loop-holds c = (omega arith, refl, λ q h. absurd (omega arith))
+loop-holds c = (omega arith, fills-none refl)
 
 mul-record-at : tie.Need-mul-record-at Inv-loop μ-loop
 mul-record-at c = omega (arith, records-in (c .before .before .before .pre))
@@ -66,9 +64,8 @@ loop-again c =
     let l = c .before .before .before .loop in
     let x = c .number .result in (
       omega arith,
-      length-set (l .def) (l .s) x ∙ l .inv .1,
-      fill-more (defaultNumber (now (t .args .image))) (l .def) (l .s) x (omega (arith, l .inv .1, t .pre .few-states))
-          (number-read (t .pre) (l .s) x (c .number .ensures ∙ ap (λ (r : Record). numberOf (r .fallback)) (c .before .record-at .ensures))) (l .inv .2),
+      fills-more (l .inv .1) (omega (arith, t .pre .few-states))
+          (number-read (t .pre) (l .s) x (c .number .ensures ∙ ap (λ (r : Record). numberOf (r .fallback)) (c .before .record-at .ensures))),
     )
 
 returns : tie.Need-returns Inv-loop μ-loop
@@ -76,7 +73,7 @@ returns c =
     let t = c .before .before .before in
     let l = c .before .loop in
     let e : l .s ≡ t .args .n = omega arith in
-    filled-falls (t .pre) (l .def) (rw e at (l .inv .2))
+    filled-falls (t .pre) (l .def) (rw e at (l .inv .1 .filled))
 
 pub defaults-of-spec : {M : Type 1} → statement M
 defaults-of-spec =

@@ -1,21 +1,21 @@
 -- The loop's invariant: the counts of the states before s are filled in.
-use mathlib.Core.Path.{_≡_, refl, _∙_}
-use Prim.Native.Nat.{_-_, _≤_}
+use mathlib.Core.Path.{refl}
+use Prim.Native.Nat.{_-_}
 use native.Mathlib.Omega.{arith}
-use lib.ListN.{length, getD, length-set}
-use Rattle.paper.proofs.Filled.{Filled, fill-more}
+use lib.ListN.{getD}
+use Rattle.chains.proofs.Fills.{Fills, fills-none, fills-more}
 use Rattle.tally.specs.Kept.{keptCount}
 use Rattle.tally.proofs.counts_of.Statement.{statement}
 use Rattle.tally.proofs.counts_of.Tie as tie
 
 abbrev Inv-loop : tie.InvT-loop
-Inv-loop t n k def counts₀ s₀ counts s = (s ≤ n) × (length counts ≡ 512) × Filled (λ q. keptCount t k q (getD def q 0)) counts s
+Inv-loop t n k def counts₀ s₀ counts s = Fills (λ q. keptCount t k q (getD def q 0)) counts s
 
 abbrev μ-loop : tie.MeasureT-loop
 μ-loop t n k def counts₀ s₀ counts s = n - s
 
 loop-holds : tie.Need-loop-holds Inv-loop μ-loop
-loop-holds c = (omega arith, refl, λ q h. absurd (omega arith))
+loop-holds c = fills-none refl
 
 mul-d : tie.Need-mul-d Inv-loop μ-loop
 mul-d c = omega (arith, c .before .before .before .pre .0 .few-states)
@@ -41,16 +41,12 @@ loop-less c = omega arith
 loop-again : tie.Need-loop-again Inv-loop μ-loop
 loop-again c =
     let l = c .before .before .before in
-    let a = l .before .before .args in (
-      omega arith,
-      length-set (l .loop .counts) (l .loop .s) _ ∙ l .loop .inv .1,
-      fill-more (λ q. keptCount (a .t .now) (a .k) q (getD (a .def .now) q 0)) (l .loop .counts) (l .loop .s) _ (omega (arith, l .loop .inv .1, l .before .before .pre .0 .few-states)) (c .count-of .ensures) (l .loop .inv .2),
-    )
+    fills-more (l .loop .inv) (omega (arith, l .before .before .pre .0 .few-states)) (c .count-of .ensures)
 
 returns : tie.Need-returns Inv-loop μ-loop
 returns c =
     let t = c .before .before .before in
-    λ s h. rw (← t .pre .0 .classes-are) (c .before .loop .inv .2 s (omega arith))
+    λ s h. rw (← t .pre .0 .classes-are) (c .before .loop .inv .filled s (omega arith))
 
 pub counts-of-spec : {M : Type 1} → statement M
 counts-of-spec =
