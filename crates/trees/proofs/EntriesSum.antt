@@ -19,7 +19,8 @@ use Rattle.trees.proofs.Points.{pointsTo-some}
 use Rattle.trees.proofs.Greedy.{Keeps, forest-keeps}
 use Rattle.trees.proofs.Grown.{Grown, singles-grown, added-grown}
 use Rattle.trees.proofs.Edges.{Neighbours, joined-neighbours-other}
-use Rattle.trees.proofs.EdgeSums.{aroundSum, around-singles, around-joined, around-falls, defaultValue, fallSum}
+use Rattle.trees.proofs.EdgeSums.{aroundSum, around-singles, around-joined}
+use Rattle.trees.proofs.FallSums.{defaultValue, fallSum, around-falls}
 
 -- Two numbers are equal either way round.
 equal-turned : (a b : ℕ) → eqb a b ≡ eqb b a

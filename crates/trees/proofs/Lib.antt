@@ -18,6 +18,7 @@ pub mod Radius
 pub mod Points
 pub mod Edges
 pub mod EdgeSums
+pub mod FallSums
 pub mod Depth
 pub mod Defaults
 pub mod Bounds
