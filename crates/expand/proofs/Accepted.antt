@@ -1,5 +1,5 @@
 -- What an accepted image hands to the functions that read its defaults and order its states.
-use mathlib.Core.Path.{_≡_, refl, sym, ap, _∙_}
+use mathlib.Core.Path.{_≡_, sym, ap, _∙_}
 use mathlib.Core.Bool.{Bool, false, not}
 use mathlib.Core.List.{List}
 use mathlib.Core.Option.{Option}
@@ -10,39 +10,15 @@ use Rattle.paper.specs.Image.{states, classes, entries, imageView}
 use Rattle.paper.proofs.Below.{any-none}
 use Rattle.facts.proofs.ImageFacts.{AcceptedImage}
 use Rattle.image.specs.Passed.{Passed}
-use Rattle.image.proofs.Accepted.{accepted-laid}
+use Rattle.image.proofs.Passed.{accepted-passed}
 use Rattle.chains.specs.Orders.{InRange, defaultsView}
 use Rattle.chains.specs.Sweeps.{Falls}
 use Rattle.chains.proofs.Agrees.{inside-range, endless-agrees}
 
 module _ (b : List ℕ) (A : AcceptedImage b) where
-  -- An accepted image has passed the first ten grounds.
-  accepted-passed : Passed b (states b) (classes b) (entries b)
-  accepted-passed =
-      let R = A .right in
-      record {
-        states-are = refl;
-        classes-are = refl;
-        entries-are = refl;
-        some-states = A .some-states;
-        few-states = A .few-states;
-        some-classes = A .some-classes;
-        few-classes = A .few-classes;
-        enough = A .enough;
-        not-many = A .not-many;
-        laid = accepted-laid b A;
-        all-classed = A .all-classed;
-        inside = R .inside;
-        full = R .full;
-        few = R .few;
-        class-below = R .class-below;
-        rises = R .rises;
-        next-below = R .next-below;
-      }
-
-  -- So it has with its counts under other names.
+  -- It has passed the first ten grounds, with its counts under any names.
   pub passed-as : (n m : ℕ) → n ≡ states b → m ≡ entries b → Passed b n (classes b) m
-  passed-as n m e q = rw (e, q) accepted-passed
+  passed-as n m e q = rw (e, q) (accepted-passed b A)
 
   -- None of its chains is endless.
   none-endless : any (states b) (endless (imageView b)) ≡ false

@@ -1,16 +1,17 @@
 -- An image to which none of the first ten grounds applies has passed them.
 use mathlib.Core.Path.{_≡_, refl}
-use mathlib.Core.List.{List}
-use Prim.Native.Nat.{ℕ}
-use lib.ListN.{length}
+use mathlib.Core.List.{List, [], _∷_}
+use Prim.Native.Nat.{ℕ, zero, suc}
+use lib.ListN.{length, take}
 use Rattle.paper.specs.Image.{states, classes, entries, classOf, imageLength, imageView, imageGrounds}
 use Rattle.paper.specs.View.{viewGrounds}
-use Rattle.paper.specs.Refusals.{first}
+use Rattle.paper.specs.Refusals.{Ground, first}
 use Rattle.paper.proofs.Refusals.{Clear, accepted}
 use Rattle.paper.proofs.Tests.{not-differ}
 use Rattle.facts.proofs.CountFacts.{all-in-range, few-entries}
 use Rattle.facts.proofs.TableFacts.{classed}
 use Rattle.facts.proofs.EntryFacts.{entered}
+use Rattle.facts.proofs.ImageFacts.{AcceptedImage, image-clear}
 use Rattle.image.specs.Grounds.{firstGrounds}
 use Rattle.image.specs.Passed.{Passed}
 
@@ -56,3 +57,13 @@ passed-all b e = passed b (accepted (firstGrounds b) refl e)
 -- The counts may be named in any way.
 pub passed-for : {b : List ℕ} {n k m k′ m′ : ℕ} → k ≡ k′ → m ≡ m′ → Passed b n k m → Passed b n k′ m′
 passed-for e q P = rw (← e, ← q) P
+
+clear-take : (n : ℕ) (gs : List Ground) → Clear gs → Clear (take n gs)
+clear-take zero gs c = refl
+clear-take (suc n) [] c = refl
+clear-take (suc n) (g ∷ gs) (e, c) = (e, clear-take n gs c)
+
+-- An accepted image has passed them.
+pub accepted-passed : (b : List ℕ) → AcceptedImage b → Passed b (states b) (classes b) (entries b)
+unfolding firstGrounds
+accepted-passed b A = passed b (clear-take 10 (imageGrounds b) (image-clear b A))

@@ -1,9 +1,8 @@
 -- All entries of an image, one after the other, and by state.
 use mathlib.Core.Path.{_≡_, refl, sym, ap, _∙_}
-use mathlib.Core.Bool.{Bool, true, false, _||_, or-false, or-assoc}
+use mathlib.Core.Bool.{Bool, true, false}
 use mathlib.Core.List.{List}
 use Prim.Native.Nat.{ℕ, zero, suc, _+_, _-_, _*_, _≤_, _<_}
-use native.Mathlib.Nat.{add-zero, add-suc}
 use native.Mathlib.Omega.{arith}
 use lib.Dec.{leb}
 use lib.ListN.{length}
@@ -12,12 +11,8 @@ use Rattle.paper.specs.Below.{any, sum}
 use Rattle.paper.specs.Words.{number16}
 use Rattle.paper.specs.View.{anyEntry}
 use Rattle.paper.specs.Image.{states, entries, entriesAt, count, entryAt, imageView}
+use Rattle.table.proofs.Rows.{any-behind}
 use Rattle.image.specs.Laid.{Laid}
-
--- One of the first a + b numbers passes just where one of the first a does, or one of the b behind them.
-any-behind : (a b : ℕ) (p : ℕ → Bool) → any (a + b) p ≡ any a p || any b (λ i. p (a + i))
-any-behind a zero p = rw add-zero (sym (or-false (any a p)))
-any-behind a (suc b) p = rw (add-suc a b, any-behind a b p) (or-assoc (any a p) (any b (λ i. p (a + i))) (p (a + b)))
 
 -- A test over the numbers below a sum is the test over each part of it.
 any-parts : (n : ℕ) (f : ℕ → ℕ) (p : ℕ → Bool) → any (sum n f) p ≡ any n (λ s. any (f s) (λ j. p (sum s f + j)))

@@ -17,16 +17,7 @@ mod in_records;
 fn counts_bad(n: usize, k: usize, m: usize) -> bool
     ensures { λ r. ⌜ r ≡ (outside 1 512 n || (outside 1 256 k || outside k (n * k) m)) ⌝ }
 {
-    if n < 1 {
-        return true;
-    }
-    if 512 < n {
-        return true;
-    }
-    if k < 1 {
-        return true;
-    }
-    if 256 < k {
+    if table::counts_bad(n, k) {
         return true;
     }
     if m < k {

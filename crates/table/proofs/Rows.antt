@@ -7,7 +7,7 @@ use native.Mathlib.Omega.{arith}
 use Rattle.paper.specs.Below.{any}
 
 -- One of the first a + b numbers passes just where one of the first a does, or one of the b behind them.
-any-behind : (a b : ℕ) (p : ℕ → Bool) → any (a + b) p ≡ any a p || any b (λ i. p (a + i))
+pub any-behind : (a b : ℕ) (p : ℕ → Bool) → any (a + b) p ≡ any a p || any b (λ i. p (a + i))
 any-behind a zero p = rw add-zero (sym (or-false (any a p)))
 any-behind a (suc b) p = rw (add-suc a b, any-behind a b p) (or-assoc (any a p) (any b (λ i. p (a + i))) (p (a + b)))
 

@@ -12,7 +12,7 @@ ghost use Rattle.table.specs.Seen.{Seen};
 ghost use Rattle.table.specs.Counted.{Counted};
 
 // Ground 2: n or k is out of range.
-fn counts_bad(n: usize, k: usize) -> bool
+pub fn counts_bad(n: usize, k: usize) -> bool
     ensures { λ r. ⌜ r ≡ (outside 1 512 n || outside 1 256 k) ⌝ }
 {
     if n < 1 {
