@@ -1,3 +1,5 @@
 pub mod Scanned
 pub mod Compacted
+pub mod Known
+pub mod ShutOut
 pub mod Demands

@@ -1,0 +1,121 @@
+-- Single facts out of the starred table, and some more that the prover computes: what the wrong programs of `ShutOut` run against.
+use mathlib.Core.Path.{_≡_, refl, sym}
+use mathlib.Core.Bool.{true, _&&_, true≢false}
+use mathlib.Core.List.{List, [], _∷_}
+use Prim.Native.Nat.{ℕ, zero, suc}
+use lib.Dec.{eqb}
+use borrow.Author.Tests.{eqb-true}
+use Rattle.paper.specs.Words.{byteAt, number16, number32, bytes16, bytes32, _⊕_, checkWord}
+use Rattle.paper.specs.Table.{labels, next, tableGrounds}
+use Rattle.paper.specs.View.{stored, depthOf, worstOf, viewGrounds}
+use Rattle.paper.specs.Image as image
+use Rattle.paper.specs.Image.{imageGrounds}
+use Rattle.paper.specs.Results.{labelBytes, recordBytes, entryBytes, front, trailer, parts, imageOfView, entriesOf, imageOf, tableFrom, tableOf}
+use Rattle.paper.specs.Forest.{weight, singles, endNear, joined, d, longest, joinedLongest, addedOrDropped, pairs, isRoot, root, pointsTo, forest, defaults}
+use Rattle.paper.specs.Scan.{scanOf}
+use Rattle.paper.specs.Operations.{judgeTable, judgeImage, Built, compacted, compactGrounds, compact, writeGrounds, write, expandGrounds, expand, scanGrounds, scan}
+use Rattle.paper.specs.Cases.{T, T2, three, aabbb, all16, room, same, Case, right, starred}
+use Rattle.paper.proofs.Below.{and-true}
+use Rattle.paper.proofs.Cases.{cases}
+
+-- Lists that are the same are equal.
+same-equal : (xs ys : List ℕ) → same xs ys ≡ true → xs ≡ ys
+same-equal [] [] e = refl
+same-equal [] (y ∷ ys) e = absurd (true≢false (sym e))
+same-equal (x ∷ xs) [] e = absurd (true≢false (sym e))
+same-equal (x ∷ xs) (y ∷ ys) e =
+    let (h, r) = and-true (eqb x y) (same xs ys) e in
+    rw (eqb-true x y h, same-equal xs ys r) refl
+
+-- A case of a table, counted from 0; behind its end a case of nothing.
+abbrev pick : ℕ → List Case → Case
+pick i [] = ([], [])
+pick zero (c ∷ cs) = c
+pick (suc i) (c ∷ cs) = pick i cs
+
+-- Each case of a table that is right is right.
+pick-right : (i : ℕ) (cs : List Case) → right cs ≡ true → pick i cs .0 ≡ pick i cs .1
+pick-right i [] e = refl
+pick-right zero (c ∷ cs) e = same-equal (c .0) (c .1) (and-true (same (c .0) (c .1)) (right cs) e .0)
+pick-right (suc i) (c ∷ cs) e = pick-right i cs (and-true (same (c .0) (c .1)) (right cs) e .1)
+
+-- The first numbers of equal lists are equal.
+head : {x a : ℕ} {r s : List ℕ} → x ∷ r ≡ a ∷ s → x ≡ a
+head {x} {a} e = let z : x ≡ a = cc in z
+
+-- So are the first two.
+heads : {x y a b : ℕ} {r s : List ℕ} → x ∷ y ∷ r ≡ a ∷ b ∷ s → (x ≡ a) × (y ≡ b)
+heads {x} {y} {a} {b} e = (head e, let z : y ≡ b = cc in z)
+
+-- So are the lists behind the first two.
+behind : {x y a b : ℕ} {r s : List ℕ} → x ∷ y ∷ r ≡ a ∷ b ∷ s → r ≡ s
+behind {r = r} {s = s} e = let z : r ≡ s = cc in z
+
+-- The operation accepted, and its result has l bytes.
+abbrev pub Accepts : Built → ℕ → Type 0
+Accepts o l = (o .number ≡ 0) × (o .resultLength ≡ l)
+
+-- T is accepted.
+pub judge-T : judgeTable T ≡ 0
+judge-T = heads (pick-right 0 starred (cases .0)) .1
+
+-- Compact of T with D 0.
+pub compact-zero : Accepts (compact T 0 (room 352)) 352
+compact-zero = heads (pick-right 2 starred (cases .0))
+
+-- Compact of T with D 2.
+pub compact-two : Accepts (compact T 2 (room 324)) 324
+compact-two = heads (pick-right 4 starred (cases .0))
+
+-- The defaults of T with 0, 1 and 2 to 3, and those of the table of three states with 2 to 1 and 1 to 0.
+abbrev pub toThree : List ℕ
+toThree = all16 (3 ∷ 3 ∷ 3 ∷ 65535 ∷ [])
+
+abbrev pub downwards : List ℕ
+downwards = all16 (65535 ∷ 0 ∷ 1 ∷ [])
+
+-- Write of T.
+pub write-T : Accepts (write T toThree (room 324)) 324
+write-T = heads (pick-right 9 starred (cases .0))
+
+-- Write of the table of three states.
+pub write-three : Accepts (write three downwards (room 314)) 314
+write-three = heads (pick-right 11 starred (cases .0))
+
+-- The scan of "aabbb" ends in state 0, and takes 2 hops.
+pub state-aabbb : scan T2 0 aabbb (room 12) .state ≡ 0
+state-aabbb = heads (behind (pick-right 6 starred (cases .0))) .0
+
+pub hops-aabbb : scan T2 0 aabbb (room 12) .hops ≡ 2
+hops-aabbb = head (behind (behind (pick-right 6 starred (cases .0))))
+
+-- The payload "aaaaa".
+abbrev pub aaaaa : List ℕ
+aaaaa = 97 ∷ 97 ∷ 97 ∷ 97 ∷ 97 ∷ []
+
+-- Cases that the paper does not star: the image of T with D 2 is accepted and expands into T, the rooms are filled, and "aaaaa" is scanned.
+abbrev more : List Case
+more =
+    (judgeImage T2 ∷ expand T2 (room 294) .number ∷ [], 0 ∷ 0 ∷ [])
+    ∷ (byteAt (compact T 2 (room 324) .room) 0 ∷ byteAt (write T toThree (room 324) .room) 0 ∷ [], 4 ∷ 4 ∷ [])
+    ∷ (byteAt (expand T2 (room 294) .room) 0 ∷ expand T2 (room 294) .resultLength ∷ [], 4 ∷ 294 ∷ [])
+    ∷ (scan T2 0 aaaaa (room 12) .state ∷ scan T2 0 aaaaa (room 12) .hops ∷ [], 1 ∷ 4 ∷ []) ∷ []
+
+-- They are right, by computation.
+more-right : right more ≡ true
+unfolding number16 number32 bytes16 bytes32 _⊕_ checkWord labels next tableGrounds stored depthOf worstOf viewGrounds image.labels image.default image.count image.entryAt imageGrounds labelBytes recordBytes entryBytes front trailer parts imageOfView entriesOf imageOf tableFrom tableOf weight singles endNear joined d longest joinedLongest addedOrDropped pairs isRoot root pointsTo forest defaults scanOf judgeTable judgeImage compacted compactGrounds compact writeGrounds write expandGrounds expand scanGrounds scan
+more-right = refl
+
+-- The image of T is accepted and can be expanded.
+pub expand-T : (judgeImage T2 ≡ 0) × (expand T2 (room 294) .number ≡ 0)
+expand-T = heads (pick-right 0 more more-right)
+
+-- The rooms of compact, write and expand then begin with n.
+pub filled-rooms : (byteAt (compact T 2 (room 324) .room) 0 ≡ 4) × (byteAt (write T toThree (room 324) .room) 0 ≡ 4) × (byteAt (expand T2 (room 294) .room) 0 ≡ 4)
+filled-rooms =
+    let (c, w) = heads (pick-right 1 more more-right) in
+    (c, w, heads (pick-right 2 more more-right) .0)
+
+-- The scan of "aaaaa" ends in state 1 after 4 hops.
+pub scan-aaaaa : (scan T2 0 aaaaa (room 12) .state ≡ 1) × (scan T2 0 aaaaa (room 12) .hops ≡ 4)
+scan-aaaaa = heads (pick-right 3 more more-right)
