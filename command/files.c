@@ -16,11 +16,16 @@ static const char ending[] = ".kamordast-XXXXXX";
 /* The file beside the final place, taken away again where the run fails. */
 static char *unfinished;
 
-static void trouble(const char *name, const char *what) {
+static const char look[] = "check the name, and that you may read the file";
+static const char free_place[] = "check that the folder is there, that you may write in it and that the disk has room; what stood under the name is as it was";
+
+/* Ends the run: says what is wrong with a file and what to do. */
+static void trouble(const char *name, const char *what, const char *advice) {
     int number = errno;
     if (unfinished) unlink(unfinished);
     if (number) fprintf(stderr, "kamordast: %s: %s: %s\n", name, what, strerror(number));
     else fprintf(stderr, "kamordast: %s: %s\n", name, what);
+    fprintf(stderr, "  what to do: %s\n", advice);
     exit(3);
 }
 
@@ -30,7 +35,7 @@ static size_t read_all(int file, const char *name, uint8_t *bytes, size_t most) 
     while (length < most) {
         ssize_t got = read(file, bytes + length, most - length);
         if (got < 0 && errno == EINTR) continue;
-        if (got < 0) trouble(name, "cannot be read");
+        if (got < 0) trouble(name, "cannot be read", look);
         if (got == 0) break;
         length += (size_t)got;
     }
@@ -40,11 +45,11 @@ static size_t read_all(int file, const char *name, uint8_t *bytes, size_t most) 
 size_t read_file(const char *name, uint8_t *bytes, size_t most) {
     struct stat found;
     int file = open(name, O_RDONLY);
-    if (file < 0) trouble(name, "cannot be opened");
-    if (fstat(file, &found)) trouble(name, "cannot be read");
+    if (file < 0) trouble(name, "cannot be opened", look);
+    if (fstat(file, &found)) trouble(name, "cannot be read", look);
     if (S_ISDIR(found.st_mode)) {
         errno = 0;
-        trouble(name, "is a directory: a file is wanted");
+        trouble(name, "is a directory", "name a file");
     }
     size_t length = read_all(file, name, bytes, most + 1);
     close(file);
@@ -55,7 +60,7 @@ static void write_all(int file, const char *name, const uint8_t *bytes, size_t l
     while (length > 0) {
         ssize_t done = write(file, bytes, length);
         if (done < 0 && errno == EINTR) continue;
-        if (done < 0) trouble(name, "cannot be written (the old file, if there was one, is as it was)");
+        if (done < 0) trouble(name, "cannot be written", free_place);
         bytes += done;
         length -= (size_t)done;
     }
@@ -65,30 +70,30 @@ void write_file(const char *name, const uint8_t *bytes, size_t length, accepts *
     size_t room = strlen(name) + sizeof ending;
     char *beside = malloc(room), *copy = strdup(name);
     uint8_t *back = malloc(length + 1);
-    if (!beside || !copy || !back) trouble(name, "there is not memory enough");
+    if (!beside || !copy || !back) trouble(name, "there is not memory enough", "close other programs and try again");
     snprintf(beside, room, "%s%s", name, ending);
     struct stat found;
     if (stat(name, &found) == 0 && S_ISDIR(found.st_mode)) {
         errno = 0;
-        trouble(name, "is a directory: a file's name is wanted");
+        trouble(name, "is a directory", "name a file in it");
     }
     int file = mkstemp(beside);
-    if (file < 0) trouble(name, "cannot be written beside its place");
+    if (file < 0) trouble(name, "cannot be written beside its place", free_place);
     unfinished = beside;
     mode_t mask = umask(0);
     umask(mask);
-    if (fchmod(file, 0666 & ~mask)) trouble(name, "cannot be given its rights");
+    if (fchmod(file, 0666 & ~mask)) trouble(name, "cannot be given its rights", free_place);
     write_all(file, name, bytes, length);
-    if (fsync(file)) trouble(name, "cannot be synced");
-    if (close(file)) trouble(name, "cannot be closed");
+    if (fsync(file)) trouble(name, "cannot be synced", free_place);
+    if (close(file)) trouble(name, "cannot be closed", free_place);
     file = open(beside, O_RDONLY);
-    if (file < 0) trouble(name, "cannot be read back");
+    if (file < 0) trouble(name, "cannot be read back", free_place);
     size_t got = read_all(file, name, back, length + 1);
     close(file);
     errno = 0;
-    if (got != length || memcmp(back, bytes, length)) trouble(name, "was not read back as it was written: the disk is full or failing");
-    if (!accepted(back, got)) trouble(name, "was not accepted when it was read back");
-    if (rename(beside, name)) trouble(name, "cannot be given its name");
+    if (got != length || memcmp(back, bytes, length)) trouble(name, "was not read back as it was written", "the disk is full or failing: take another; what stood under the name is as it was");
+    if (!accepted(back, got)) trouble(name, "was not accepted when it was read back", "keep the input and call the engineers; what stood under the name is as it was");
+    if (rename(beside, name)) trouble(name, "cannot be given its name", free_place);
     unfinished = NULL;
     /* The name itself is synced too, where the folder can be opened. */
     int folder = open(dirname(copy), O_RDONLY);

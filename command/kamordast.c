@@ -107,7 +107,7 @@ static int scan(const char *image, const char *bytes, const char *state_word) {
     uint32_t refused = kamordast_judge_image(input, length);
     if (refused) return refuse(image, refused);
     long state = state_word ? number_of(state_word, 4294967295L) : (long)number16(input, 4);
-    if (state < 0) return usage("the state is a number");
+    if (state < 0) return usage("the state is a number from 0 to 4294967295");
     size_t payload_length = read_file(bytes, payload, LONGEST_PAYLOAD);
     kamordast_scanned r = kamordast_scan(input, length, (uint32_t)state, payload, payload_length, room, 6 * LONGEST_PAYLOAD);
     if (r.refused) return refuse(r.refused == 15 ? bytes : state_word ? state_word : image, r.refused);
@@ -164,7 +164,7 @@ static int forest(const char *table, const char *bound_word, int dot) {
 static int run(int count, char **words) {
     if (count < 2) return usage("a command is wanted");
     const char *command = words[1];
-    if (!strcmp(command, "--help") || !strcmp(command, "-h") || !strcmp(command, "help")) {
+    if (!strcmp(command, "--help") || !strcmp(command, "-h") || !strcmp(command, "help") || (count == 3 && !strcmp(words[2], "--help"))) {
         fputs(help, stdout);
         return DONE;
     }

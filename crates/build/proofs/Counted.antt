@@ -12,7 +12,8 @@ use Rattle.paper.specs.View.{View}
 use Rattle.paper.specs.Image.{defaultFrom, imageLength}
 use Rattle.paper.specs.Results.{recordBytes, entryBytes}
 use Rattle.paper.proofs.Below.{each-same}
-use Rattle.paper.proofs.Sums.{sum-same, sum-bound, count-le}
+use Rattle.paper.proofs.Sums.{sum-same, sum-bound}
+use Rattle.paper.proofs.Counts.{count-le}
 use Rattle.trips.proofs.Spans.{length-each}
 use Rattle.trips.proofs.Labels.{default-number}
 use Rattle.trips.proofs.ImageParts.{total, rowPlace, row-wide}

@@ -13,7 +13,7 @@ use Rattle.paper.specs.Table.{classes, next}
 use Rattle.paper.specs.Image.{defaultFrom}
 use Rattle.paper.specs.Results.{entryBytes, differs, entriesOf}
 use Rattle.paper.proofs.Below.{each-same}
-use Rattle.paper.proofs.Sums.{count-same}
+use Rattle.paper.proofs.Counts.{count-same}
 use Rattle.tally.specs.Kept.{kept, keptCount}
 use Rattle.tally.specs.Owned.{listView}
 use Rattle.tally.proofs.Owned.{kept-differs}

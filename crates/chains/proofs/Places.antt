@@ -7,7 +7,7 @@ use native.Mathlib.Nat.{not-suc-le-zero}
 use native.Mathlib.Omega.{arith}
 use lib.ListN.{length, getD, replicate, length-replicate, getD-replicate}
 use Rattle.paper.specs.View.{View, chain, chained, longer}
-use Rattle.paper.proofs.Sums.{pigeonhole}
+use Rattle.paper.proofs.Counts.{pigeonhole}
 use Rattle.paper.proofs.Chain.{Inside}
 use Rattle.chains.specs.Orders.{defaultsView, ParentFirst}
 use Rattle.chains.specs.Places.{Unplaced, Laid}

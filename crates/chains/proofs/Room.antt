@@ -11,7 +11,7 @@ use lib.Dec.{ltb}
 use lib.ListN.{getD}
 use borrow.Author.Tests.{lt-ltb, le-ltb}
 use Rattle.paper.specs.View.{View, chain, steps, andThen}
-use Rattle.paper.proofs.Sums.{pigeonhole}
+use Rattle.paper.proofs.Counts.{pigeonhole}
 use Rattle.paper.proofs.Chain.{Inside, some-same, steps-add, steps-inside, chain-on}
 use Rattle.chains.specs.Orders.{defaultsView}
 use Rattle.chains.specs.Places.{along, Ready}

@@ -1,6 +1,7 @@
 pub mod Below
 pub mod Tests
 pub mod Sums
+pub mod Counts
 pub mod Rising
 pub mod Filled
 pub mod Chain

@@ -9,7 +9,7 @@ use Rattle.paper.specs.Below.{or, given}
 use Rattle.paper.specs.View.{View, chain, chained, longer, steps, andThen, endless}
 use Rattle.paper.specs.Sentences.{Returns}
 use Rattle.paper.proofs.Tests.{Holds, none≢some}
-use Rattle.paper.proofs.Sums.{Twice, collision}
+use Rattle.paper.proofs.Counts.{Twice, collision}
 use Rattle.paper.proofs.Chain.{Inside, some-same, steps-inside, chain-on}
 
 module _ (v : View) where

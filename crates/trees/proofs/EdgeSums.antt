@@ -11,7 +11,8 @@ use Rattle.paper.specs.Below.{sum}
 use Rattle.paper.specs.Forest.{Trees, singles, joined}
 use Rattle.paper.proofs.Below.{bool-false}
 use Rattle.paper.proofs.Tests.{holds-and, holds-equal}
-use Rattle.paper.proofs.Sums.{sum-same, sum-add, sum-zero, pick-value}
+use Rattle.paper.proofs.Sums.{sum-same, sum-add, sum-zero}
+use Rattle.paper.proofs.Counts.{pick-value}
 use Rattle.paper.proofs.Join.{Mates}
 use Rattle.paper.proofs.Bridge.{joined-bridge}
 use Rattle.trees.proofs.Metric.{Metric}

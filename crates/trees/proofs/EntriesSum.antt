@@ -14,7 +14,8 @@ use Rattle.paper.specs.Below.{sum, howMany, bit, given}
 use Rattle.paper.specs.Table.{states, classes, next}
 use Rattle.paper.specs.Results.{differs, entriesOf}
 use Rattle.paper.specs.Forest.{Trees, weight, singles, joined, weightsOf, lean, forest, defaults}
-use Rattle.paper.proofs.Sums.{sum-same, sum-add, sum-constant, count-same, count-both, count-all, length-passed}
+use Rattle.paper.proofs.Sums.{sum-same, sum-add, sum-constant}
+use Rattle.paper.proofs.Counts.{count-same, count-both, count-all, length-passed}
 use Rattle.trees.proofs.Points.{pointsTo-some}
 use Rattle.trees.proofs.Greedy.{Keeps, forest-keeps}
 use Rattle.trees.proofs.Grown.{Grown, singles-grown, added-grown}

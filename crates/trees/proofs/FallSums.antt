@@ -11,7 +11,8 @@ use borrow.Author.Tests.{eq-eqb, ne-eqb}
 use Rattle.paper.specs.Below.{sum}
 use Rattle.paper.specs.Forest.{Trees, pointsTo}
 use Rattle.paper.proofs.Tests.{none≢some}
-use Rattle.paper.proofs.Sums.{sum-same, sum-add, sum-zero, sum-swap, pick-value}
+use Rattle.paper.proofs.Sums.{sum-same, sum-add, sum-zero, sum-swap}
+use Rattle.paper.proofs.Counts.{pick-value}
 use Rattle.paper.proofs.Chain.{some-same}
 use Rattle.trees.proofs.Metric.{Metric}
 use Rattle.trees.proofs.Inside.{Inside}

@@ -9,7 +9,7 @@ use lib.Dec.{eqb}
 use borrow.Author.Tests.{eq-eqb, ne-eqb}
 use Rattle.paper.specs.Below.{bit, howMany}
 use Rattle.paper.specs.Forest.{Trees, singles, joined, d, longest, joinedLongest}
-use Rattle.paper.proofs.Sums.{count-two, count-none, count-le, count-found}
+use Rattle.paper.proofs.Counts.{count-two, count-none, count-le, count-found}
 use Rattle.paper.proofs.Join.{Mates}
 use Rattle.paper.proofs.Bridge.{Reached, Bridge, turned, joined-bridge}
 use Rattle.trees.proofs.Farthest.{d-least}

@@ -10,7 +10,7 @@ use Rattle.paper.specs.Below.{howMany, when, given, or}
 use Rattle.paper.specs.View.{View, Found, here, stored, find, look}
 use Rattle.paper.proofs.Below.{firstOf-some, firstOf-empty}
 use Rattle.paper.proofs.Tests.{given-some, none≢some}
-use Rattle.paper.proofs.Sums.{all-counted}
+use Rattle.paper.proofs.Counts.{all-counted}
 use Rattle.paper.proofs.Rising.{Rises, Row, rank, rank-all}
 use Rattle.paper.proofs.Chain.{some-same, steps-inside, chain-short}
 use Rattle.paper.proofs.Look.{serves-own, serves-on, look-serves, serves-look, serves-find, look-finds}

@@ -14,7 +14,7 @@ use Rattle.paper.specs.Results.{differs, entriesOf, tableView}
 use Rattle.paper.specs.Operations.{judgeTable}
 use Rattle.paper.proofs.Below.{any-at}
 use Rattle.paper.proofs.Tests.{given-some}
-use Rattle.paper.proofs.Sums.{count-all}
+use Rattle.paper.proofs.Counts.{count-all}
 use Rattle.paper.proofs.Rising.{rank-all, count-le-bound}
 use Rattle.paper.proofs.Chain.{Inside}
 use Rattle.facts.proofs.TableFacts.{accepted-table}
