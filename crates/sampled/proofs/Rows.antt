@@ -1,4 +1,4 @@
--- The sampled rows are right, by computation. With its value named `refl` computes each test once.
+-- The sampled rows are right, by computation, a statement for each file since one may take so many steps only. With its value named `refl` computes each test once.
 use mathlib.Core.Path.{_≡_, refl}
 use mathlib.Core.Bool.{true}
 use Rattle.sampled.specs.Row.{agrees, right}
