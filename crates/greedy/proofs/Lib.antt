@@ -2,3 +2,4 @@ pub mod Becomes
 pub mod Pair
 pub mod Rows
 pub mod Falls
+pub mod Absent

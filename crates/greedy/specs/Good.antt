@@ -1,7 +1,8 @@
 -- Trees within the bound, held in arrays, and what the pairs taken make of them.
+use mathlib.Core.Path.{_≡_}
 use mathlib.Core.Bool.{Bool, _&&_}
 use mathlib.Core.List.{List}
-use Prim.Native.Nat.{ℕ, _+_, _*_}
+use Prim.Native.Nat.{ℕ, _+_, _*_, _<_}
 use lib.Dec.{leb, eqb}
 use lib.ListN.{getD}
 use Rattle.paper.specs.Below.{differ}
@@ -26,3 +27,7 @@ weightIn weights u v = getD weights (u * 512 + v) 0
 -- A pair of weight x is added among those of weight w: its ends lie in different trees, and the path over it is at most D.
 abbrev pub isTaken : ℕ → ℕ → ℕ → ℕ → ℕ → ℕ → ℕ → Bool
 isTaken x w tu tv du dv D = eqb x w && (differ tu tv && leb (du + dv + 1) D)
+
+-- No pair has the weight w.
+abbrev pub Absent : ℕ → (ℕ → ℕ → ℕ) → ℕ → Type 0
+Absent n weight w = (u v : ℕ) → u < v → v < n → ¬ (weight u v ≡ w)

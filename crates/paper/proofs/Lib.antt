@@ -4,6 +4,7 @@ pub mod Sums
 pub mod Counts
 pub mod Rising
 pub mod Filled
+pub mod Marks
 pub mod Chain
 pub mod Returns
 pub mod Look

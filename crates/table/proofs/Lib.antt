@@ -1,5 +1,4 @@
 pub mod Either
-pub mod Marks
 pub mod Rows
 pub mod Next
 pub mod Decided

@@ -8,7 +8,7 @@ ghost use Rattle.paper.specs.Below.{any, outside};
 ghost use Rattle.paper.specs.Words.{byteAt};
 ghost use Rattle.paper.specs.Table.{next, classesBad, tableLength};
 ghost use Rattle.paper.specs.Promises.{JudgesTable};
-ghost use Rattle.table.specs.Seen.{Seen};
+ghost use Rattle.paper.proofs.Marks.{Seen};
 ghost use Rattle.table.specs.Counted.{Counted};
 
 // Ground 2: n or k is out of range.

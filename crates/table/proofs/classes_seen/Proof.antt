@@ -4,8 +4,7 @@ use Prim.Native.Nat.{_≤_, _-_, _+_}
 use native.Mathlib.Omega.{arith}
 use lib.ListN.{length, length-set}
 use Rattle.paper.specs.Words.{byteAt}
-use Rattle.table.specs.Seen.{Seen}
-use Rattle.table.proofs.Marks.{seen-nothing, seen-more}
+use Rattle.paper.proofs.Marks.{Seen, seen-nothing, seen-more}
 use Rattle.table.proofs.classes_seen.Statement.{statement}
 use Rattle.table.proofs.classes_seen.Tie as tie
 
