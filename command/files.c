@@ -10,8 +10,9 @@
 #include <sys/stat.h>
 #include <unistd.h>
 
-/* What is put behind a name for the file beside its place. mkstemp(3) wants the six X and puts letters there that no file has yet. */
-static const char ending[] = ".kamordast-XXXXXX";
+/* What is put behind a name for the file beside its place, and how many letters mkstemp(3) adds to it that no file has yet. */
+static const char ending[] = ".kamordast-";
+enum { LETTERS = 6 };
 
 /* The file beside the final place, taken away again where the run fails. */
 static char *unfinished;
@@ -67,11 +68,13 @@ static void write_all(int file, const char *name, const uint8_t *bytes, size_t l
 }
 
 void write_file(const char *name, const uint8_t *bytes, size_t length, accepts *accepted) {
-    size_t room = strlen(name) + sizeof ending;
+    size_t stem = strlen(name) + sizeof ending - 1, room = stem + LETTERS + 1;
     char *beside = malloc(room), *copy = strdup(name);
     uint8_t *back = malloc(length + 1);
     if (!beside || !copy || !back) trouble(name, "there is not memory enough", "close other programs and try again");
     snprintf(beside, room, "%s%s", name, ending);
+    memset(beside + stem, 'X', LETTERS); /* where the letters go */
+    beside[stem + LETTERS] = 0;
     struct stat found;
     if (stat(name, &found) == 0 && S_ISDIR(found.st_mode)) {
         errno = 0;

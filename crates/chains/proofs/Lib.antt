@@ -10,4 +10,3 @@ pub mod Done
 pub mod Depth
 pub mod Agrees
 pub mod Sweeps
-pub mod Fills

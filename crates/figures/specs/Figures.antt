@@ -2,14 +2,10 @@
 use mathlib.Core.Path.{_≡_}
 use mathlib.Core.List.{List}
 use Prim.Native.Nat.{ℕ}
-use lib.ListN.{take}
 use Rattle.paper.specs.Below.{howMany, given}
 use Rattle.paper.specs.Image.{states, depth, entries, default, worst}
 use Rattle.paper.specs.Operations.{Built}
-
--- The image that was built; where it was refused, no bytes.
-abbrev pub imageIn : Built → List ℕ
-imageIn o = take (o .resultLength) (o .room)
+use Rattle.trips.proofs.Building.{result}
 
 -- How many states of an image have a default.
 abbrev pub defaultsIn : List ℕ → ℕ
@@ -18,8 +14,8 @@ defaultsIn b = howMany (states b) (λ s. given (default b s))
 -- The numbers are those of an image built or refused, read out of the image.
 pub record Shows (o : Built) (number deep far stored defaults bytes : ℕ) : Type 0 where
   pub number-is : number ≡ o .number
-  pub deep-is : deep ≡ depth (imageIn o)
-  pub far-is : far ≡ worst (imageIn o)
-  pub stored-is : stored ≡ entries (imageIn o)
-  pub defaults-are : defaults ≡ defaultsIn (imageIn o)
+  pub deep-is : deep ≡ depth (result o)
+  pub far-is : far ≡ worst (result o)
+  pub stored-is : stored ≡ entries (result o)
+  pub defaults-are : defaults ≡ defaultsIn (result o)
   pub bytes-are : bytes ≡ o .resultLength

@@ -54,6 +54,14 @@ module _ {row : List ℕ} {count : ℕ} (R : Rising row count) where
       go i hi (yes e) = rw e l
       go i hi (no e) = omega (arith, ahead (classAt row) count (R .rises) i j (omega arith) h)
 
+  -- Where an entry's class is not below c, none behind it is.
+  pub over-from : (c j : ℕ) → j < count → c ≤ classAt row j → (i : ℕ) → j ≤ i → i < count → c ≤ classAt row i
+  over-from c j h l i ji hi = go (ℕ-discrete i j)
+    where
+      go : Dec (i ≡ j) → c ≤ classAt row i
+      go (yes e) = rw e l
+      go (no e) = omega (arith, ahead (classAt row) count (R .rises) j i (omega arith) hi)
+
   module _ {c j : ℕ} (P : Under row count c j) where
     -- Where the next entry's class is above the class, it is not stored.
     pub under-over : j < count → c < classAt row j → storedIn row c ≡ none

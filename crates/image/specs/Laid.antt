@@ -1,7 +1,7 @@
 -- What must be known of an image before its parts are read.
 use mathlib.Core.Path.{_≡_}
 use mathlib.Core.List.{List}
-use Prim.Native.Nat.{ℕ, suc, _*_, _/_, _≤_, _<_}
+use Prim.Native.Nat.{ℕ, suc, _+_, _*_, _/_, _≤_, _<_}
 use lib.ListN.{length, getD}
 use Rattle.paper.specs.Below.{sum}
 use Rattle.paper.specs.Words.{number16}
@@ -28,6 +28,11 @@ pub record Rising (row : List ℕ) (count : ℕ) : Type 0 where
 pub record Under (row : List ℕ) (count c j : ℕ) : Type 0 where
   pub within : j ≤ count
   pub lower : (i : ℕ) → i < j → number16 row (4 * i) < c
+
+-- The entries before j have classes below c, and those eight or more places behind it have not.
+pub record Near (row : List ℕ) (count c j : ℕ) : Type 0 where
+  pub before : Under row count c j
+  pub behind : (i : ℕ) → j + 8 ≤ i → i < count → c ≤ number16 row (4 * i)
 
 -- A row whose classes rise and are below k.
 pub record Row (row : List ℕ) (k : ℕ) : Type 0 where

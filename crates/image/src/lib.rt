@@ -5,7 +5,7 @@ ghost use lib.ListN.{length};
 ghost use Rattle.paper.specs.View.{look};
 ghost use Rattle.paper.specs.Image.{states, classes, entries, recordsAt, entriesPart, imageView};
 ghost use Rattle.image.specs.Forms.{recordAt, numberOf, stepOf, storedIn};
-ghost use Rattle.image.specs.Laid.{Laid, Begins, Rising, Under, Row, Ready};
+ghost use Rattle.image.specs.Laid.{Laid, Begins, Rising, Near, Row, Ready};
 
 // Where a state falls: it is a root, or it falls to a state.
 pub enum Fallback {
@@ -91,10 +91,10 @@ pub fn entries_of<'a>(image: &'a [u8], begins: &[u32; 513], s: usize) -> &'a [u8
     &image[from..end]
 }
 
-// Halves a long row to a place with at most eight entries between it and the class; every entry before that place is below the class.
+// Halves a long row to a place near the class: every entry before it is below the class, and none eight or more places behind it is.
 fn near(row: &[u8], count: usize, class: u16) -> usize
     requires { ⌜ Rising (now row) count ⌝ }
-    ensures { λ r. ⌜ Under (now (row .entry)) count class r ⌝ }
+    ensures { λ r. ⌜ Near (now (row .entry)) count class r ⌝ }
 {
     let mut low = 0;
     let mut high = count;

@@ -1,10 +1,8 @@
 -- Single facts out of the starred table, and some more that the prover computes: what the wrong programs of `ShutOut` run against.
-use mathlib.Core.Path.{_≡_, refl, sym}
-use mathlib.Core.Bool.{true, _&&_, true≢false}
+use mathlib.Core.Path.{_≡_, refl}
+use mathlib.Core.Bool.{true}
 use mathlib.Core.List.{List, [], _∷_}
-use Prim.Native.Nat.{ℕ, zero, suc}
-use lib.Dec.{eqb}
-use borrow.Author.Tests.{eqb-true}
+use Prim.Native.Nat.{ℕ}
 use Rattle.paper.specs.Words.{byteAt, number16, number32, bytes16, bytes32, _⊕_, checkWord}
 use Rattle.paper.specs.Table.{labels, next, tableGrounds}
 use Rattle.paper.specs.View.{stored, depthOf, worstOf, viewGrounds}
@@ -14,30 +12,8 @@ use Rattle.paper.specs.Results.{labelBytes, recordBytes, entryBytes, front, tra
 use Rattle.paper.specs.Forest.{weight, singles, endNear, joined, d, longest, joinedLongest, addedOrDropped, pairs, isRoot, root, pointsTo, forest, defaults}
 use Rattle.paper.specs.Scan.{scanOf}
 use Rattle.paper.specs.Operations.{judgeTable, judgeImage, Built, compacted, compactGrounds, compact, writeGrounds, write, expandGrounds, expand, scanGrounds, scan}
-use Rattle.paper.specs.Cases.{T, T2, three, aabbb, all16, room, same, Case, right, starred}
-use Rattle.paper.proofs.Below.{and-true}
-use Rattle.paper.proofs.Cases.{cases}
-
--- Lists that are the same are equal.
-same-equal : (xs ys : List ℕ) → same xs ys ≡ true → xs ≡ ys
-same-equal [] [] e = refl
-same-equal [] (y ∷ ys) e = absurd (true≢false (sym e))
-same-equal (x ∷ xs) [] e = absurd (true≢false (sym e))
-same-equal (x ∷ xs) (y ∷ ys) e =
-    let (h, r) = and-true (eqb x y) (same xs ys) e in
-    rw (eqb-true x y h, same-equal xs ys r) refl
-
--- A case of a table, counted from 0; behind its end a case of nothing.
-abbrev pick : ℕ → List Case → Case
-pick i [] = ([], [])
-pick zero (c ∷ cs) = c
-pick (suc i) (c ∷ cs) = pick i cs
-
--- Each case of a table that is right is right.
-pick-right : (i : ℕ) (cs : List Case) → right cs ≡ true → pick i cs .0 ≡ pick i cs .1
-pick-right i [] e = refl
-pick-right zero (c ∷ cs) e = same-equal (c .0) (c .1) (and-true (same (c .0) (c .1)) (right cs) e .0)
-pick-right (suc i) (c ∷ cs) e = pick-right i cs (and-true (same (c .0) (c .1)) (right cs) e .1)
+use Rattle.paper.specs.Cases.{T, T2, three, aabbb, all16, room, Case, right, starred}
+use Rattle.paper.proofs.Cases.{pick-right, cases}
 
 -- The first numbers of equal lists are equal.
 head : {x a : ℕ} {r s : List ℕ} → x ∷ r ≡ a ∷ s → x ≡ a

@@ -1,9 +1,10 @@
--- The starred cases are right, by computation.
-use mathlib.Core.Path.{_≡_, refl, ap}
-use mathlib.Core.Bool.{Bool, true, cond}
-use mathlib.Core.List.{[], _∷_}
-use Prim.Native.Nat.{ℕ, _+_, _/_, zero-le}
-use borrow.Author.Tests.{le-ltb}
+-- The starred cases are right, by computation, and each of them by itself.
+use mathlib.Core.Path.{_≡_, refl, sym, ap}
+use mathlib.Core.Bool.{Bool, true, cond, true≢false}
+use mathlib.Core.List.{List, [], _∷_}
+use Prim.Native.Nat.{ℕ, zero, suc, _+_, _/_, zero-le}
+use lib.Dec.{eqb}
+use borrow.Author.Tests.{le-ltb, eqb-true}
 use Rattle.paper.specs.Words.{number16, number32, bytes16, bytes32, _⊕_, checkWord}
 use Rattle.paper.specs.Table.{labels, next, tableGrounds}
 use Rattle.paper.specs.View.{stored, depthOf, worstOf, viewGrounds}
@@ -13,9 +14,31 @@ use Rattle.paper.specs.Results.{labelBytes, recordBytes, entryBytes, fro
 use Rattle.paper.specs.Forest.{weight, singles, endNear, joined, d, longest, joinedLongest, addedOrDropped, pairs, isRoot, root, pointsTo, forest, defaults}
 use Rattle.paper.specs.Scan.{scanOf}
 use Rattle.paper.specs.Operations.{judgeTable, judgeImage, building, compacted, compactGrounds, compact, writeGrounds, write, expandGrounds, expand, scanGrounds, scan}
-use Rattle.paper.specs.Cases.{built, right, room, starred, three}
+use Rattle.paper.specs.Cases.{built, same, Case, right, room, starred, three}
+use Rattle.paper.proofs.Below.{and-true}
 
 -- Every starred case is right, and the table of three states compacted with any D has 322 bytes and no defaults.
 pub cases : (right starred ≡ true) × ((D : ℕ) → built (compact three D (room 322)) ≡ 0 ∷ 322 ∷ 6 ∷ 0 ∷ 0 ∷ 65535 ∷ 65535 ∷ 65535 ∷ [])
 unfolding number16 number32 bytes16 bytes32 _⊕_ checkWord labels next tableGrounds stored depthOf worstOf viewGrounds image.labels image.default image.count image.entryAt imageGrounds labelBytes recordBytes entryBytes front trailer parts imageOfView entriesOf imageOf tableOf weight singles endNear joined d longest joinedLongest addedOrDropped pairs isRoot root pointsTo forest defaults scanOf judgeTable judgeImage compacted compactGrounds compact writeGrounds write expandGrounds expand scanGrounds scan
 cases = (refl, λ D. ap (λ (deep : Bool). built (building (cond deep 17 0) (compacted three D) (room 322))) (le-ltb ((D + 1) / 2) 0 zero-le))
+
+-- Lists that are the same are equal.
+same-equal : (xs ys : List ℕ) → same xs ys ≡ true → xs ≡ ys
+same-equal [] [] e = refl
+same-equal [] (y ∷ ys) e = absurd (true≢false (sym e))
+same-equal (x ∷ xs) [] e = absurd (true≢false (sym e))
+same-equal (x ∷ xs) (y ∷ ys) e =
+    let (h, r) = and-true (eqb x y) (same xs ys) e in
+    rw (eqb-true x y h, same-equal xs ys r) refl
+
+-- A case of a table, counted from 0; behind its end a case of nothing.
+abbrev pub pick : ℕ → List Case → Case
+pick i [] = ([], [])
+pick zero (c ∷ cs) = c
+pick (suc i) (c ∷ cs) = pick i cs
+
+-- Each case of a table that is right is right.
+pub pick-right : (i : ℕ) (cs : List Case) → right cs ≡ true → pick i cs .0 ≡ pick i cs .1
+pick-right i [] e = refl
+pick-right zero (c ∷ cs) e = same-equal (c .0) (c .1) (and-true (same (c .0) (c .1)) (right cs) e .0)
+pick-right (suc i) (c ∷ cs) e = pick-right i cs (and-true (same (c .0) (c .1)) (right cs) e .1)

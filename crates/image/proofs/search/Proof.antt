@@ -19,7 +19,7 @@ near-requires : tie.Need-near-requires Inv-loop μ-loop
 near-requires c κs = c .before .pre
 
 loop-holds : tie.Need-loop-holds Inv-loop μ-loop
-loop-holds c = c .near .ensures
+loop-holds c = c .near .ensures .before
 
 mul-get16 : tie.Need-mul-get16 Inv-loop μ-loop
 mul-get16 c = omega arith

@@ -5,7 +5,7 @@ use native.Mathlib.Omega.{arith}
 use borrow.Author.Needs.{needs}
 use Rattle.image.specs.Forms.{numberOf}
 use Rattle.image.specs.declared.Record.{Record}
-use Rattle.chains.proofs.Fills.{Fills, fills-none, fills-more}
+use Rattle.paper.proofs.Filled.{Fills, fills-none, fills-more}
 use Rattle.sweep.proofs.Defaults.{defaultNumber, records-in, number-read, filled-falls}
 use Rattle.sweep.proofs.defaults_of.Statement.{statement}
 use Rattle.sweep.proofs.defaults_of.Tie as tie

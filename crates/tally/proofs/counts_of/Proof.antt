@@ -3,7 +3,7 @@ use mathlib.Core.Path.{refl}
 use Prim.Native.Nat.{_-_}
 use native.Mathlib.Omega.{arith}
 use lib.ListN.{getD}
-use Rattle.chains.proofs.Fills.{Fills, fills-none, fills-more}
+use Rattle.paper.proofs.Filled.{Fills, fills-none, fills-more}
 use Rattle.tally.specs.Kept.{keptCount}
 use Rattle.tally.proofs.counts_of.Statement.{statement}
 use Rattle.tally.proofs.counts_of.Tie as tie

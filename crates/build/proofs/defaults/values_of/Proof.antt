@@ -3,7 +3,7 @@ use mathlib.Core.Path.{refl}
 use Prim.Native.Nat.{_-_, _*_}
 use native.Mathlib.Omega.{arith}
 use Rattle.paper.specs.Words.{number16}
-use Rattle.chains.proofs.Fills.{Fills, fills-none, fills-more}
+use Rattle.paper.proofs.Filled.{Fills, fills-none, fills-more}
 use Rattle.build.proofs.defaults.values_of.Statement.{statement}
 use Rattle.build.proofs.defaults.values_of.Tie as tie
 
