@@ -1,4 +1,4 @@
--- One byte altered: what that is, and what it does to the sum of the words.
+-- What one byte altered does to the sum of the words.
 use mathlib.Core.Path.{_≡_, ap}
 use mathlib.Core.Logic.{_≢_, _⊎_, inl, inr}
 use mathlib.Core.List.{List}
@@ -6,16 +6,9 @@ use Prim.Native.Nat.{ℕ, _+_, _*_, _<_}
 use native.Mathlib.Omega.{arith}
 use lib.ListN.{length}
 use Rattle.paper.specs.Words.{byteAt, Bytes}
+use Rattle.paper.specs.Altered.{Altered}
 use Rattle.paper.proofs.Sums.{sum-altered}
 use Rattle.damage.proofs.Weights.{weight, counted, weighed, weight-1-or-256}
-
--- Two lists of one length with different bytes at one place and the same bytes at every other.
-pub record Altered (b b′ : List ℕ) : Type 0 where
-  pub place : ℕ
-  pub inside : place < length b
-  pub sameLength : length b′ ≡ length b
-  pub different : byteAt b place ≢ byteAt b′ place
-  pub elsewhere : (j : ℕ) → j ≢ place → byteAt b j ≡ byteAt b′ j
 
 -- Two sums that differ, but by less than 65535.
 abbrev pub Near : ℕ → ℕ → Type 0

@@ -4,13 +4,14 @@ use mathlib.Core.List.{List, [], _∷_}
 use Prim.Native.Nat.{ℕ, zero, suc, _+_, _-_, _*_}
 use native.Mathlib.Omega.{arith}
 use lib.ListN.{length, take}
+use Rattle.paper.specs.Altered.{Altered}
 use Rattle.paper.specs.Words.{Bytes, number16, words, checkWord}
 use Rattle.paper.specs.Image.{states, entries}
 use Rattle.paper.specs.Operations.{judgeImage}
 use Rattle.paper.proofs.Words.{words-fit}
 use Rattle.facts.proofs.ImageFacts.{accepted-image}
 use Rattle.damage.proofs.Weights.{weighed, total-weighed, weighed-last}
-use Rattle.damage.proofs.Altered.{Altered, weighed-altered}
+use Rattle.damage.proofs.Altered.{weighed-altered}
 use Rattle.damage.proofs.CheckWords.{total-checkWord}
 
 -- An even number of bytes, at least two, whose last word is the check word of all words before it.

@@ -7,7 +7,7 @@ use native.Mathlib.Omega.{arith}
 use lib.ListN.{length, take}
 use Rattle.paper.specs.Words.{Bytes}
 use Rattle.paper.specs.Operations.{judgeImage}
-use Rattle.damage.proofs.Altered.{Altered}
+use Rattle.paper.specs.Altered.{Altered}
 use Rattle.damage.proofs.Checked.{checked-altered, accepted-checked}
 use Rattle.damage.proofs.Prefixes.{prefix-gives-1, prefix-gives-3}
 

@@ -17,7 +17,8 @@ use Rattle.image.proofs.Rows.{nextFor}
 use Rattle.image.proofs.Parts.{part-stored}
 use Rattle.image.proofs.Accepted.{accepted-laid}
 use Rattle.chains.specs.Orders.{StandsBefore}
-use Rattle.trips.proofs.Stored.{root-stores, goes-own, goes-on}
+use Rattle.facts.proofs.Finds.{root-stores}
+use Rattle.trips.proofs.Stored.{goes-own, goes-on}
 use Rattle.expand.specs.Kept.{Kept}
 use Rattle.expand.specs.Rows.{rowAt, Overlaid, Inherited, Setting, RowStands}
 use Rattle.expand.proofs.Kept.{number-before, number-behind}

@@ -3,3 +3,4 @@ pub mod TableFacts
 pub mod EntryFacts
 pub mod ViewFacts
 pub mod ImageFacts
+pub mod Finds

@@ -1,16 +1,16 @@
 -- The figures of what compact leaves: of an accepted image its own, and 0 where it was refused.
 use mathlib.Core.Path.{_≡_, sym, ap, ap₂, _∙_}
-use mathlib.Core.List.{List, []}
+use mathlib.Core.List.{List}
 use Prim.Native.Nat.{ℕ, _≤_}
 use lib.ListN.{length, take}
 use Rattle.paper.specs.Words.{Bytes, number16, number32}
 use Rattle.paper.specs.Image.{depth, entries, worst}
 use Rattle.paper.specs.Refusals.{first}
-use Rattle.paper.specs.Operations.{compacted, compactGrounds, compact}
+use Rattle.paper.specs.Operations.{result, compacted, compactGrounds, compact}
 use Rattle.paper.specs.Promises.{Compacts}
 use Rattle.paper.proofs.Refused.{compact-refused}
 use Rattle.facts.proofs.ImageFacts.{AcceptedImage, accepted-image}
-use Rattle.trips.proofs.Building.{result, result-fits, result-none}
+use Rattle.trips.proofs.Building.{result-fits, result-none}
 use Rattle.kamordast.proofs.Compacted.{compacted-accepted}
 use Rattle.figures.specs.Figures.{defaultsIn, Shows}
 

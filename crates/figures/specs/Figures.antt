@@ -4,8 +4,7 @@ use mathlib.Core.List.{List}
 use Prim.Native.Nat.{ℕ}
 use Rattle.paper.specs.Below.{howMany, given}
 use Rattle.paper.specs.Image.{states, depth, entries, default, worst}
-use Rattle.paper.specs.Operations.{Built}
-use Rattle.trips.proofs.Building.{result}
+use Rattle.paper.specs.Operations.{result, Built}
 
 -- How many states of an image have a default.
 abbrev pub defaultsIn : List ℕ → ℕ

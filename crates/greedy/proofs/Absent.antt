@@ -10,7 +10,7 @@ use lib.ListN.{getD}
 use borrow.Author.Tests.{lt-ltb, le-ltb, ne-eqb, eqb-false}
 use Rattle.paper.specs.Forest.{Trees}
 use Rattle.paper.proofs.Below.{any-at}
-use Rattle.paper.proofs.Levels.{row, rows}
+use Rattle.paper.specs.Levels.{row, rows}
 use Rattle.paper.proofs.Marks.{Seen}
 use Rattle.joining.specs.Held.{Whole}
 use Rattle.greedy.specs.Good.{Becomes, weightIn, Absent}

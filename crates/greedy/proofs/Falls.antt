@@ -4,7 +4,8 @@ use mathlib.Core.List.{List}
 use Prim.Native.Nat.{ℕ, zero, suc, _-_, _<_}
 use native.Mathlib.Omega.{arith}
 use Rattle.paper.specs.Forest.{Trees, rest, falling}
-use Rattle.paper.proofs.Levels.{rows, levels, falling-levels}
+use Rattle.paper.specs.Levels.{rows, levels}
+use Rattle.paper.proofs.Levels.{falling-levels}
 use Rattle.joining.specs.Held.{Whole}
 use Rattle.greedy.specs.Good.{Becomes}
 use Rattle.greedy.proofs.Becomes.{becomes-same, becomes-then}

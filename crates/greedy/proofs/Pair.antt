@@ -12,7 +12,7 @@ use borrow.Author.Tests.{lt-ltb, le-leb, lt-leb, leb-true, eqb-false, not-true}
 use Rattle.paper.specs.Below.{differ}
 use Rattle.paper.specs.Forest.{Trees, joined, d, joinedLongest, addedOrDropped}
 use Rattle.paper.proofs.Below.{and-true}
-use Rattle.paper.proofs.Levels.{looked}
+use Rattle.paper.specs.Levels.{looked}
 use Rattle.trees.proofs.Longest.{joinedLongest-bound}
 use Rattle.trees.proofs.Grown.{added-grown}
 use Rattle.joining.specs.Held.{Joined}

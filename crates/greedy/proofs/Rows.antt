@@ -8,7 +8,7 @@ use native.Mathlib.Omega.{arith}
 use lib.ListN.{getD}
 use borrow.Author.Tests.{le-ltb}
 use Rattle.paper.specs.Forest.{Trees}
-use Rattle.paper.proofs.Levels.{row, rows}
+use Rattle.paper.specs.Levels.{row, rows}
 use Rattle.joining.specs.Held.{Joined, Whole}
 use Rattle.greedy.specs.Good.{Becomes, isTaken}
 use Rattle.greedy.proofs.Becomes.{becomes-same, becomes-then}

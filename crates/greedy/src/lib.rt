@@ -4,7 +4,7 @@ ghost use mathlib.Core.Bool.{false};
 ghost use Prim.Native.Nat.{_*_, _≤_};
 ghost use lib.ListN.{getD};
 ghost use Rattle.paper.specs.Forest.{rest, falling};
-ghost use Rattle.paper.proofs.Levels.{rows};
+ghost use Rattle.paper.specs.Levels.{rows};
 ghost use Rattle.paper.proofs.Marks.{Seen};
 ghost use Rattle.joining.specs.Rooted.{Low};
 ghost use Rattle.greedy.specs.Good.{Becomes, weightIn, isTaken, Absent};

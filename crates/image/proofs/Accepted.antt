@@ -1,18 +1,14 @@
 -- What is known of the parts of an accepted image.
-use mathlib.Core.Path.{_≡_, sym, _∙_}
+use mathlib.Core.Path.{_≡_}
 use mathlib.Core.List.{List}
-use mathlib.Core.Option.{none, some}
 use Prim.Native.Nat.{ℕ, suc, _+_, _*_, _/_, _≤_, _<_}
 use native.Mathlib.Nat.{mul-le-mul}
 use native.Mathlib.Omega.{arith}
 use lib.ListN.{length}
-use Rattle.paper.specs.Words.{number16}
-use Rattle.paper.specs.View.{stored}
-use Rattle.paper.specs.Image.{states, classes, recordsAt, count, default, entriesPart, imageView}
+use Rattle.paper.specs.Image.{states, classes, recordsAt, count, entriesPart}
 use Rattle.facts.proofs.ImageFacts.{AcceptedImage}
 use Rattle.image.specs.Laid.{Laid, Row}
-use Rattle.image.proofs.Rows.{row-full}
-use Rattle.image.proofs.Parts.{part-length, part-class, part-stored}
+use Rattle.image.proofs.Parts.{part-length, part-class}
 
 -- An accepted image has the length that its counts give, and its records count its entries.
 pub accepted-laid : (b : List ℕ) → AcceptedImage b → Laid b
@@ -44,12 +40,6 @@ module _ (b : List ℕ) (A : AcceptedImage b) (s : ℕ) (hs : s < states b) wher
             let l : j < count b s = omega (arith, part-count) in
             omega (arith, part-class b s j l, A .right .class-below s j hs l);
       }
-
-  -- A state without a default stores every class.
-  pub root-stores : default b s ≡ none → (c : ℕ) → c < classes b → (t : ℕ) × (stored (imageView b) s c ≡ some t)
-  root-stores e c h =
-      let full : length (entriesPart b s) / 4 ≡ classes b = part-count ∙ A .right .full s hs e in
-      (number16 (entriesPart b s) (4 * c + 2), sym (part-stored b (accepted-laid b A) s hs c) ∙ row-full part-row full c h)
 
   -- The record of a state stands in the image.
   pub record-in : recordsAt b + 4 * s + 4 ≤ length b

@@ -14,13 +14,14 @@ use Rattle.paper.specs.Image.{states, classes, recordsAt, defaultFrom, default,
 use Rattle.paper.proofs.Tests.{none≢some}
 use Rattle.paper.proofs.Chain.{some-same, chain-short, chain-default}
 use Rattle.paper.proofs.Look.{serves-own, serves-on, serves-find}
+use Rattle.facts.proofs.Finds.{root-stores}
 use Rattle.facts.proofs.ImageFacts.{AcceptedImage}
 use Rattle.image.specs.Forms.{stepOf, storedIn}
 use Rattle.image.specs.declared.Step.{Step}
 use Rattle.image.specs.declared.Step.the-variants.{Stored, Nothing}
 use Rattle.image.proofs.Cases.{step-stored, step-nothing}
 use Rattle.image.proofs.Parts.{part-stored}
-use Rattle.image.proofs.Accepted.{accepted-laid, root-stores}
+use Rattle.image.proofs.Accepted.{accepted-laid}
 
 -- The steps that a state's chain has left, 0 where it has no end.
 abbrev pub stepsLeft : List ℕ → ℕ → ℕ
@@ -82,7 +83,7 @@ module _ (b : List ℕ) (A : AcceptedImage b) where
       way-on e d q = go (default b s) refl
         where
           go : (o : Option ℕ) → default b s ≡ o → Onward b state class s hops d
-          go none r = let (t, w) = root-stores b A s (W .inside) r class hc in absurd (none≢some (stored (imageView b) s class) t e w)
+          go none r = let (t, w) = root-stores (imageView b) (A .right) s class (W .inside) hc r in absurd (none≢some (stored (imageView b) s class) t e w)
           go (some x) r =
               let d-is : d ≡ x = q ∙ default-number (number16 b (recordsAt b + 4 * s)) x r in
               let (k, w, l) = chain-default (imageView b) (states b) s x (stepsLeft b s) (W .ends) r in

@@ -1,53 +1,91 @@
--- What compact leaves: an accepted image whose defaults are the forest's, whose depth is bounded, and whose scan walks the table that was handed in.
-use mathlib.Core.Path.{_≡_, ap, _∙_}
-use mathlib.Core.List.{List}
-use Prim.Native.Nat.{ℕ, _+_, _/_, _≤_, _<_}
-use lib.ListN.{take}
+-- What compact leaves: an accepted image whose defaults are the forest's, whose chains are short, and whose entries, defaults and weights make n times k; and what D does at its ends.
+use mathlib.Core.Path.{_≡_, sym, ap, _∙_}
+use mathlib.Core.Bool.{Bool, false}
+use mathlib.Core.List.{List, [], _∷_, _++_}
+use mathlib.Core.Option.{Option, none}
+use Prim.Native.Nat.{ℕ, _+_, _*_, _/_, _≤_, _<_}
+use lib.Dec.{ltb}
+use lib.ListN.{length}
+use borrow.Author.Tests.{le-ltb}
+use Rattle.paper.specs.Below.{howMany, given}
 use Rattle.paper.specs.Words.{Bytes}
-use Rattle.paper.specs.Table.{states, classOf, labels, next}
+use Rattle.paper.specs.Refusals.{first}
+use Rattle.paper.specs.Table.{states, classes, tableGrounds}
+use Rattle.paper.specs.View.{depthOf}
 use Rattle.paper.specs.Image as image
-use Rattle.paper.specs.Results.{tableOf}
-use Rattle.paper.specs.Scan.{scanOf}
-use Rattle.paper.specs.Forest.{defaults}
-use Rattle.paper.specs.Operations.{judgeImage, compact}
-use Rattle.trees.proofs.Defaults.{defaults-depth}
-use Rattle.trips.proofs.Building.{result}
-use Rattle.trips.proofs.ImageOf.{reads, image-of-accepted, defaults-of-image, table-of-image}
-use Rattle.trips.proofs.ResultBytes.{image-of-bytes}
+use Rattle.paper.specs.Image.{imageView}
+use Rattle.paper.specs.Results.{tableView, imageOf}
+use Rattle.paper.specs.Forest.{weight, weightsOf, forest, defaults}
+use Rattle.paper.specs.Sentences.{Ends}
+use Rattle.paper.specs.Operations.{judgeImage, result, building, compacted, compactGrounds, compact}
+use Rattle.paper.proofs.Chain.{chain-ends}
+use Rattle.paper.proofs.Counts.{count-same}
+use Rattle.trees.proofs.Defaults.{defaults-chain, defaults-depth}
+use Rattle.trees.proofs.EntriesSum.{entries-sum}
+use Rattle.trees.proofs.Bounds.{bound-zero, bound-free}
+use Rattle.trips.proofs.ImageOf.{reads, image-of-accepted, defaults-of-image}
 use Rattle.trips.proofs.ExpandsBack.{compact-leaves}
-use Rattle.scan.proofs.Follows.{Follows}
-use Rattle.kamordast.proofs.Scanned as scanned
 
 module _ (t : List ℕ) (D : ℕ) (room : List ℕ) (B : Bytes t) (e : compact t D room .number ≡ 0) where
+  -- The image that it leaves.
+  abbrev left : List ℕ
+  left = result (compact t D room)
+
   -- It is accepted.
-  pub compacted-accepted : judgeImage (result (compact t D room)) ≡ 0
+  pub compacted-accepted : judgeImage left ≡ 0
   compacted-accepted =
       let (w, W) = compact-leaves t D room e in
       ap judgeImage w ∙ image-of-accepted t (defaults t D) B W
 
-  -- Its table is the one that was compacted.
-  pub compacted-table : tableOf (result (compact t D room)) ≡ t
-  compacted-table =
-      let (w, W) = compact-leaves t D room e in
-      ap tableOf w ∙ table-of-image t (defaults t D) B W
-
   -- Its defaults are the forest's.
-  pub compacted-defaults : (s : ℕ) → s < states t → image.default (result (compact t D room)) s ≡ defaults t D s
+  pub compacted-defaults : (s : ℕ) → s < states t → image.default left s ≡ defaults t D s
   compacted-defaults s h =
       let (w, W) = compact-leaves t D room e in
       ap (λ (b : List ℕ). image.default b s) w ∙ defaults-of-image t (defaults t D) B W s h
 
-  -- The depth that it states is at most D halved and rounded up.
-  pub compacted-depth : image.depth (result (compact t D room)) ≤ (D + 1) / 2
+  -- Every chain of it ends after at most D halved and rounded up.
+  pub compacted-chains : (s : ℕ) → s < states t → (l : ℕ) × Ends (imageView left) s l × (l ≤ (D + 1) / 2)
+  compacted-chains s h =
+      let (l, q, short) = defaults-chain t D (imageView left) compacted-defaults s h in
+      (l, chain-ends (imageView left) (states t) s l q, short)
+
+  -- So is the depth that it states.
+  pub compacted-depth : image.depth left ≤ (D + 1) / 2
   compacted-depth =
       let (w, W) = compact-leaves t D room e in
       rw (w, reads t (defaults t D) B W .depth-is) (defaults-depth t D)
 
-  -- After every byte taken its scan is in the state of the table's walk and has its reports.
-  pub compacted-follows : (s : ℕ) (payload : List ℕ) (reports : ℕ) → s < states t → Bytes payload → (i : ℕ) → i ≤ scanOf (result (compact t D room)) s payload reports .taken
-      → Follows (classOf t) (labels t) (next t) s (take i payload) (scanOf (result (compact t D room)) s (take i payload) reports)
-  compacted-follows s payload reports h P =
+  -- It has the table's states.
+  compacted-states : image.states left ≡ states t
+  compacted-states =
       let (w, W) = compact-leaves t D room e in
-      let inside : s < image.states (result (compact t D room)) = rw (w, ← reads t (defaults t D) B W .view-is .states-same) h in
-      rw compacted-table at
-      (scanned.scan-follows (result (compact t D room)) (rw w (image-of-bytes t (defaults t D) B)) compacted-accepted s payload reports inside P)
+      ap (λ (b : List ℕ). image.states b) w ∙ sym (reads t (defaults t D) B W .view-is .states-same)
+
+  -- Its m, the defaults in its records and the weights of the pairs added make n times k.
+  pub compacted-entries : image.entries left + (howMany (image.states left) (λ s. given (image.default left s)) + weightsOf (weight t) (forest t D .added)) ≡ states t * classes t
+  compacted-entries =
+      let (w, W) = compact-leaves t D room e in
+      let m = ap (λ (b : List ℕ). image.entries b) w ∙ reads t (defaults t D) B W .entries-are in
+      let named = ap (λ (n : ℕ). howMany n (λ s. given (image.default left s))) compacted-states
+      ∙ count-same (states t) (λ s. given (image.default left s)) (λ s. given (defaults t D s)) (λ s h. ap (λ (o : Option ℕ). given o) (compacted-defaults s h)) in
+      rw (m, named) (entries-sum t D)
+
+-- D 0 gives no defaults.
+pub compacted-zero : (t room : List ℕ) → Bytes t → compact t 0 room .number ≡ 0 → (s : ℕ) → s < states t → image.default (result (compact t 0 room)) s ≡ none
+compacted-zero t room B e s h = compacted-defaults t 0 room B e s h ∙ bound-zero t s
+
+-- Compact with the defaults of the forest as one argument: 17 never applies.
+compact-by : (t : List ℕ) (D : ℕ) (room : List ℕ)
+    → compact t D room ≡ building (first (tableGrounds t ++ ((17, false) ∷ (16, ltb (length room) (length (imageOf t (defaults t D)))) ∷ []))) (imageOf t (defaults t D)) room
+unfolding compact compactGrounds compacted
+compact-by t D room =
+    ap (λ (deep : Bool). building (first (tableGrounds t ++ ((17, deep) ∷ (16, ltb (length room) (length (imageOf t (defaults t D)))) ∷ []))) (imageOf t (defaults t D)) room)
+    (le-ltb ((D + 1) / 2) (depthOf (tableView t (defaults t D))) (defaults-depth t D))
+
+-- D at n - 1 or more binds nothing: with all such bounds compact answers and leaves the same.
+pub compacted-free : (t : List ℕ) (D D′ : ℕ) (room : List ℕ) → states t ≤ D + 1 → states t ≤ D′ + 1 → compact t D room ≡ compact t D′ room
+compacted-free t D D′ room h h′ =
+    compact-by t D room
+    ∙ ap (λ (default : ℕ → Option ℕ). building (first (tableGrounds t ++ ((17, false) ∷ (16, ltb (length room) (length (imageOf t default))) ∷ []))) (imageOf t default) room)
+    (bound-free t D D′ h h′)
+    ∙ sym (compact-by t D′ room)

@@ -1,4 +1,5 @@
 -- The demands as theorems, over the operations' own functions on lists of bytes. Each operation in code promises to answer and leave what its function says.
+-- Every notion in a statement stands in the definitions, crates/paper/specs.
 use mathlib.Core.Path.{_≡_}
 use mathlib.Core.Logic.{_↔_}
 use mathlib.Core.Bool.{true}
@@ -7,38 +8,33 @@ use mathlib.Core.Option.{none}
 use Prim.Native.Nat.{ℕ, _+_, _-_, _*_, _/_, _≤_, _<_}
 use lib.ListN.{length, take}
 use Rattle.paper.specs.Below.{sum, howMany, given}
-use Rattle.paper.specs.Words.{Bytes}
-use Rattle.paper.specs.Table.{states, classes, classOf, labels, next}
+use Rattle.paper.specs.Words.{byteAt, Bytes}
+use Rattle.paper.specs.Table.{states, classes}
+use Rattle.paper.specs.View.{look}
 use Rattle.paper.specs.Image as image
-use Rattle.paper.specs.View.{depthOf, look}
-use Rattle.paper.specs.Results.{defaultsOf, entriesOf, tableView, tableOf}
-use Rattle.paper.specs.Scan.{scanOf}
+use Rattle.paper.specs.Image.{imageView}
+use Rattle.paper.specs.Results.{defaultsOf, tableOf}
 use Rattle.paper.specs.Forest.{weight, singles, weightsOf, forest, defaults}
-use Rattle.paper.specs.Operations.{judgeTable, judgeImage, building, compact, write, expand, scan}
-use Rattle.paper.specs.Sentences.{FirstOf, tableSentences, imageSentences, compactSentences, writeSentences, expandSentences, scanSentences}
-use Rattle.paper.specs.Promises.{JudgesTable, JudgesImage, Compacts, Writes, Expands, Scans}
+use Rattle.paper.specs.Levels.{levels}
+use Rattle.paper.specs.Paths.{TrueDistances}
+use Rattle.paper.specs.Operations.{judgeTable, judgeImage, result, Unchanged, building, compact, write, expand, scan}
+use Rattle.paper.specs.Promises.{SameBuilt, JudgesTable, JudgesImage, Compacts, Writes, Expands, Scans}
+use Rattle.paper.specs.Sentences.{FirstOf, Ends, LongestChain, Serves, LargestHops, tableSentences, imageSentences, compactSentences, writeSentences, expandSentences, scanSentences}
+use Rattle.paper.specs.Follows.{ScansLike}
+use Rattle.paper.specs.Altered.{Altered}
 use Rattle.paper.specs.Cases.{built, right, room, starred, three}
-use Rattle.paper.proofs.Levels.{levels, falling-levels}
-use Rattle.paper.proofs.Distances.{TrueDistances}
+use Rattle.paper.proofs.Levels.{falling-levels}
 use Rattle.paper.proofs.Exact as exact
 use Rattle.paper.proofs.Determined as one
-use Rattle.paper.proofs.Determined.{SameBuilt}
 use Rattle.paper.proofs.Cases as stars
 use Rattle.paper.proofs.Refused as refusing
-use Rattle.paper.proofs.Refused.{Unchanged}
 use Rattle.facts.proofs.ImageFacts.{accepted-image}
-use Rattle.damage.proofs.Altered.{Altered}
+use Rattle.facts.proofs.Finds as finds
 use Rattle.damage.proofs.Damage as damage
 use Rattle.trees.proofs.TrueDistances as trees
-use Rattle.trees.proofs.Defaults as chosen
-use Rattle.trees.proofs.Bounds as bounds
-use Rattle.trees.proofs.EntriesSum as sums
-use Rattle.trips.proofs.Building.{result}
 use Rattle.trips.proofs.ExpandsBack as expands
 use Rattle.trips.proofs.WritesBack as writes
-use Rattle.scan.proofs.Follows.{Follows}
 use Rattle.scan.proofs.Hops as hops
-use Rattle.scan.proofs.Hops.{hopsAt}
 use Rattle.kamordast.proofs.Scanned as scanned
 use Rattle.kamordast.proofs.Compacted as compacted
 
@@ -86,46 +82,58 @@ expands-back = (expands.expand-write, expands.expand-compact)
 pub writes-back : (b room room′ : List ℕ) → Bytes b → expand b room .number ≡ 0 → length b ≤ length room′ → write (result (expand b room)) (defaultsOf b) room′ ≡ building 0 b room′
 writes-back = writes.write-expand-own
 
--- After every byte a scan is in the plain table's state and has reported exactly its matches: the table of any accepted image, and the table that was compacted.
-pub scan-follows : ((b : List ℕ) → Bytes b → judgeImage b ≡ 0 → (s : ℕ) (payload : List ℕ) (room : ℕ) → s < image.states b → Bytes payload
-    → (i : ℕ) → i ≤ scanOf b s payload room .taken
-    → Follows (classOf (tableOf b)) (labels (tableOf b)) (next (tableOf b)) s (take i payload) (scanOf b s (take i payload) room))
-    × ((t : List ℕ) (D : ℕ) (room : List ℕ) → Bytes t → compact t D room .number ≡ 0 → (s : ℕ) (payload : List ℕ) (reports : ℕ) → s < states t → Bytes payload
-    → (i : ℕ) → i ≤ scanOf (result (compact t D room)) s payload reports .taken
-    → Follows (classOf t) (labels t) (next t) s (take i payload) (scanOf (result (compact t D room)) s (take i payload) reports))
-scan-follows = (scanned.scan-follows, compacted.compacted-follows)
+-- After every byte a scan is in the plain table's state and has reported exactly its matches, and it stops only before the first byte whose report has no room:
+-- for any accepted image and its table, and for what compact and write left of a table that they were handed.
+pub scan-follows : ((b : List ℕ) → Bytes b → judgeImage b ≡ 0 → ScansLike (tableOf b) b)
+    × ((t : List ℕ) (D : ℕ) (room : List ℕ) → Bytes t → compact t D room .number ≡ 0 → ScansLike t (result (compact t D room)))
+    × ((t ds room : List ℕ) → Bytes t → write t ds room .number ≡ 0 → ScansLike t (result (write t ds room)))
+scan-follows = (scanned.accepted-scans, scanned.compacted-scans, scanned.written-scans)
 
--- Hops counted are those of the chain's definition: the sum over the bytes taken of the hops of their look-ups.
-pub hops-counted : (b : List ℕ) (s : ℕ) (payload : List ℕ) (room : ℕ) → scanOf b s payload room .hops ≡ sum (scanOf b s payload room .taken) (hopsAt b s payload room)
-hops-counted = hops.hops-counted
+-- What the look-up finds for a state and a byte is what the chain gives: so many steps on stands the first state that stores the class.
+pub look-served : (b : List ℕ) → judgeImage b ≡ 0 → (s x : ℕ) → s < image.states b → x < 256
+    → Serves (imageView b) s (image.classOf b x) (look (imageView b) s (image.classOf b x) .hops) (look (imageView b) s (image.classOf b x) .target)
+look-served b e = finds.look-served b (accepted-image b e)
+
+-- Hops counted are those of the chain's definition: for each byte taken the chain of the state before it gives the state after it in so many hops, and these together are the hops answered.
+pub hops-counted : (b : List ℕ) (s : ℕ) (payload room : List ℕ) → Bytes payload → scan b s payload room .number ≡ 0
+    → (hops : ℕ → ℕ)
+    × ((i : ℕ) → i < scan b s payload room .taken
+    → Serves (imageView b) (scan b s (take i payload) room .state) (image.classOf b (byteAt payload i)) (hops i) (scan b s (take (i + 1) payload) room .state))
+    × (scan b s payload room .hops ≡ sum (scan b s payload room .taken) hops)
+hops-counted b s payload room P e = let C = hops.hops-counted b s payload room P e in (_, C .served, C .together)
 
 -- They are at most worst times the bytes taken.
-pub hops-bounded : (b : List ℕ) (s : ℕ) (payload : List ℕ) (room : ℕ) → judgeImage b ≡ 0 → s < image.states b → Bytes payload
-    → scanOf b s payload room .hops ≤ image.worst b * scanOf b s payload room .taken
-hops-bounded b s payload room e = hops.hops-bounded b s payload room (accepted-image b e)
+pub hops-bounded : (b : List ℕ) (s : ℕ) (payload room : List ℕ) → Bytes payload → scan b s payload room .number ≡ 0
+    → scan b s payload room .hops ≤ image.worst b * scan b s payload room .taken
+hops-bounded = hops.hops-bounded
 
--- Some state and byte cost exactly worst.
-pub worst-met : (b : List ℕ) → judgeImage b ≡ 0
-    → (s : ℕ) × (x : ℕ) × (s < image.states b) × (x < 256) × (look (image.imageView b) s (image.classOf b x) .hops ≡ image.worst b)
-worst-met = scanned.worst-met
+-- Some state and byte cost exactly the worst that an accepted image states, and none costs more.
+pub worst-met : (b : List ℕ) → judgeImage b ≡ 0 → LargestHops (imageView b) (image.classOf b) (image.worst b)
+worst-met b e = finds.stated-worst b (accepted-image b e)
 
--- With path bound D no chain is longer than D halved and rounded up, so 17 is never given; nor is the depth that compact states.
-pub half-of-bound : ((t : List ℕ) (D : ℕ) → depthOf (tableView t (defaults t D)) ≤ (D + 1) / 2)
-    × ((t : List ℕ) (D : ℕ) (room : List ℕ) → Bytes t → compact t D room .number ≡ 0 → image.depth (result (compact t D room)) ≤ (D + 1) / 2)
-half-of-bound = (chosen.defaults-depth, compacted.compacted-depth)
+-- Some chain is as long as the depth that an accepted image states, and none is longer.
+pub depth-met : (b : List ℕ) → judgeImage b ≡ 0 → LongestChain (imageView b) (image.depth b)
+depth-met b e = finds.stated-depth b (accepted-image b e)
 
--- Stored entries, plus defaults, plus the weights of the pairs added, equal n times k.
-pub entries-sum : (t : List ℕ) (D : ℕ)
-    → sum (states t) (λ s. length (entriesOf t (defaults t D) s)) + (howMany (states t) (λ s. given (defaults t D s)) + weightsOf (weight t) (forest t D .added)) ≡ states t * classes t
-entries-sum = sums.entries-sum
+-- With path bound D every chain of what compact leaves ends after at most D halved and rounded up, and so is the depth stated.
+pub half-of-bound : (t : List ℕ) (D : ℕ) (room : List ℕ) → Bytes t → compact t D room .number ≡ 0
+    → ((s : ℕ) → s < states t → (l : ℕ) × Ends (imageView (result (compact t D room))) s l × (l ≤ (D + 1) / 2))
+    × (image.depth (result (compact t D room)) ≤ (D + 1) / 2)
+half-of-bound t D room B e = (compacted.compacted-chains t D room B e, compacted.compacted-depth t D room B e)
+
+-- Of what compact leaves the entries stored, plus the defaults in the records, plus the weights of the pairs added, equal n times k.
+pub entries-sum : (t : List ℕ) (D : ℕ) (room : List ℕ) → Bytes t → compact t D room .number ≡ 0
+    → let b = result (compact t D room) in
+    image.entries b + (howMany (image.states b) (λ s. given (image.default b s)) + weightsOf (weight t) (forest t D .added)) ≡ states t * classes t
+entries-sum = compacted.compacted-entries
 
 -- D 0 gives no defaults.
-pub bound-zero : (t : List ℕ) (s : ℕ) → defaults t 0 s ≡ none
-bound-zero = bounds.bound-zero
+pub bound-zero : (t room : List ℕ) → Bytes t → compact t 0 room .number ≡ 0 → (s : ℕ) → s < states t → image.default (result (compact t 0 room)) s ≡ none
+bound-zero = compacted.compacted-zero
 
--- D at n - 1 or more binds nothing: all such bounds give the same defaults.
-pub bound-free : (t : List ℕ) (D D′ : ℕ) → states t ≤ D + 1 → states t ≤ D′ + 1 → defaults t D ≡ defaults t D′
-bound-free = bounds.bound-free
+-- D at n - 1 or more binds nothing: with all such bounds compact answers and leaves the same.
+pub bound-free : (t : List ℕ) (D D′ : ℕ) (room : List ℕ) → states t ≤ D + 1 → states t ≤ D′ + 1 → compact t D room ≡ compact t D′ room
+bound-free = compacted.compacted-free
 
 -- Of each operation any two outcomes that its promise allows are one: all its numbers, and every byte of its room.
 pub determined : ((t : List ℕ) (n n′ : ℕ) → JudgesTable t n → JudgesTable t n′ → n ≡ n′)

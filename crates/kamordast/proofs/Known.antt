@@ -1,9 +1,12 @@
 -- Single facts out of the starred table, and some more that the prover computes: what the wrong programs of `ShutOut` run against.
 use mathlib.Core.Path.{_≡_, refl}
-use mathlib.Core.Bool.{true}
+use mathlib.Core.Bool.{Bool, true, _&&_}
 use mathlib.Core.List.{List, [], _∷_}
-use Prim.Native.Nat.{ℕ}
-use Rattle.paper.specs.Words.{byteAt, number16, number32, bytes16, bytes32, _⊕_, checkWord}
+use Prim.Native.Nat.{ℕ, zero, suc}
+use native.Mathlib.Omega.{arith}
+use lib.Dec.{ltb}
+use borrow.Author.Tests.{ltb-true}
+use Rattle.paper.specs.Words.{byteAt, Bytes, number16, number32, bytes16, bytes32, _⊕_, checkWord}
 use Rattle.paper.specs.Table.{labels, next, tableGrounds}
 use Rattle.paper.specs.View.{stored, depthOf, worstOf, viewGrounds}
 use Rattle.paper.specs.Image as image
@@ -13,7 +16,9 @@ use Rattle.paper.specs.Forest.{weight, singles, endNear, joined, d, longest, jo
 use Rattle.paper.specs.Scan.{scanOf}
 use Rattle.paper.specs.Operations.{judgeTable, judgeImage, Built, compacted, compactGrounds, compact, writeGrounds, write, expandGrounds, expand, scanGrounds, scan}
 use Rattle.paper.specs.Cases.{T, T2, three, aabbb, all16, room, Case, right, starred}
+use Rattle.paper.proofs.Below.{and-true}
 use Rattle.paper.proofs.Cases.{pick-right, cases}
+use Rattle.trips.proofs.ResultBytes.{image-of-bytes}
 
 -- The first numbers of equal lists are equal.
 head : {x a : ℕ} {r s : List ℕ} → x ∷ r ≡ a ∷ s → x ≡ a
@@ -35,6 +40,24 @@ Accepts o l = (o .number ≡ 0) × (o .resultLength ≡ l)
 pub judge-T : judgeTable T ≡ 0
 judge-T = heads (pick-right 0 starred (cases .0)) .1
 
+-- Every element of a list is a byte, as a test.
+allBytes : List ℕ → Bool
+allBytes [] = true
+allBytes (x ∷ xs) = ltb x 256 && allBytes xs
+
+-- What passes it are bytes.
+bytes-tested : (xs : List ℕ) → allBytes xs ≡ true → Bytes xs
+unfolding allBytes
+bytes-tested [] e i = omega arith
+bytes-tested (x ∷ xs) e zero = ltb-true x 256 (and-true (ltb x 256) (allBytes xs) e .0)
+bytes-tested (x ∷ xs) e (suc i) = bytes-tested xs (and-true (ltb x 256) (allBytes xs) e .1) i
+
+-- A room is of bytes.
+pub bytes-room : (n : ℕ) → Bytes (room n)
+bytes-room zero i = omega arith
+bytes-room (suc n) zero = omega arith
+bytes-room (suc n) (suc i) = bytes-room n i
+
 -- Compact of T with D 0.
 pub compact-zero : Accepts (compact T 0 (room 352)) 352
 compact-zero = heads (pick-right 2 starred (cases .0))
@@ -42,6 +65,10 @@ compact-zero = heads (pick-right 2 starred (cases .0))
 -- Compact of T with D 2.
 pub compact-two : Accepts (compact T 2 (room 324)) 324
 compact-two = heads (pick-right 4 starred (cases .0))
+
+-- Compact of the table of three states with D 2.
+pub compact-three : Accepts (compact three 2 (room 322)) 322
+compact-three = heads (cases .1 2)
 
 -- The defaults of T with 0, 1 and 2 to 3, and those of the table of three states with 2 to 1 and 1 to 0.
 abbrev pub toThree : List ℕ
@@ -58,6 +85,10 @@ write-T = heads (pick-right 9 starred (cases .0))
 pub write-three : Accepts (write three downwards (room 314)) 314
 write-three = heads (pick-right 11 starred (cases .0))
 
+-- The scan of "aabbb" is accepted and takes five bytes.
+pub accepts-aabbb : (scan T2 0 aabbb (room 12) .number ≡ 0) × (scan T2 0 aabbb (room 12) .taken ≡ 5)
+accepts-aabbb = heads (pick-right 6 starred (cases .0))
+
 -- The scan of "aabbb" ends in state 0, and takes 2 hops.
 pub state-aabbb : scan T2 0 aabbb (room 12) .state ≡ 0
 state-aabbb = heads (behind (pick-right 6 starred (cases .0))) .0
@@ -68,6 +99,28 @@ hops-aabbb = head (behind (behind (pick-right 6 starred (cases .0))))
 -- The payload "aaaaa".
 abbrev pub aaaaa : List ℕ
 aaaaa = 97 ∷ 97 ∷ 97 ∷ 97 ∷ 97 ∷ []
+
+-- Both tables, both lists and both payloads are of bytes.
+pub bytes-T : Bytes T
+unfolding bytes16 allBytes
+bytes-T = bytes-tested T refl
+
+pub bytes-three : Bytes three
+unfolding bytes16 allBytes
+bytes-three = bytes-tested three refl
+
+pub bytes-lists : Bytes toThree × Bytes downwards
+unfolding bytes16 allBytes
+bytes-lists = (bytes-tested toThree refl, bytes-tested downwards refl)
+
+pub bytes-payloads : Bytes aabbb × Bytes aaaaa
+unfolding allBytes
+bytes-payloads = (bytes-tested aabbb refl, bytes-tested aaaaa refl)
+
+-- So is the image of T with D 2.
+pub bytes-T2 : Bytes T2
+unfolding compacted
+bytes-T2 = image-of-bytes T (defaults T 2) bytes-T
 
 -- Cases that the paper does not star: the image of T with D 2 is accepted and expands into T, the rooms are filled, and "aaaaa" is scanned.
 abbrev more : List Case

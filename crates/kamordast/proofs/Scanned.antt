@@ -1,25 +1,25 @@
--- The scan of an accepted image against its plain table: an image says what its table says, and some look-up costs its worst.
-use mathlib.Core.Path.{_≡_, sym, _∙_}
+-- The scan against the plain table: of an accepted image against its own, of what write and compact left against the one that was handed in.
+use mathlib.Core.Path.{_≡_, sym, subst}
 use mathlib.Core.List.{List}
-use Prim.Native.Nat.{ℕ, _≤_, _<_}
-use native.Mathlib.Omega.{arith}
-use lib.ListN.{take}
+use mathlib.Core.Option.{Option}
+use Prim.Native.Nat.{ℕ}
 use Rattle.paper.specs.Words.{Bytes}
 use Rattle.paper.specs.Table as table
-use Rattle.paper.specs.View.{look}
-use Rattle.paper.specs.Image.{states, classOf, worst, imageView}
-use Rattle.paper.specs.Results.{tableOf}
-use Rattle.paper.specs.Scan.{scanOf}
-use Rattle.paper.specs.Operations.{judgeImage}
-use Rattle.paper.proofs.Look as looking
+use Rattle.paper.specs.Results.{imageOf, tableOf}
+use Rattle.paper.specs.Forest.{defaults}
+use Rattle.paper.specs.Operations.{result, judgeImage, listed, compact, write}
+use Rattle.paper.specs.Follows.{ScansLike}
 use Rattle.facts.proofs.ImageFacts.{accepted-image}
 use Rattle.trips.proofs.TableOf.{table-reads}
-use Rattle.scan.proofs.Follows as following
-use Rattle.scan.proofs.Follows.{Says, Follows}
+use Rattle.trips.proofs.Writable.{Writable}
+use Rattle.trips.proofs.ImageOf.{image-of-accepted, table-of-image}
+use Rattle.trips.proofs.ResultBytes.{image-of-bytes}
+use Rattle.trips.proofs.ExpandsBack.{write-leaves, compact-leaves}
+use Rattle.scan.proofs.Follows.{Says, scans-like}
 
 module _ (b : List ℕ) (B : Bytes b) (e : judgeImage b ≡ 0) where
   -- The table says of classes, labels and next states what the image says.
-  table-says : Says b (table.classOf (tableOf b)) (table.labels (tableOf b)) (table.next (tableOf b))
+  table-says : Says b (tableOf b)
   table-says =
       let R = table-reads b B e in
       record {
@@ -28,15 +28,24 @@ module _ (b : List ℕ) (B : Bytes b) (e : judgeImage b ≡ 0) where
         next-same = λ s c hs hc. sym (R .next-is s c hs hc);
       }
 
-  -- After every byte taken the scan is in the state of the table's walk and has its reports.
-  pub scan-follows : (s : ℕ) (payload : List ℕ) (room : ℕ) → s < states b → Bytes payload → (i : ℕ) → i ≤ scanOf b s payload room .taken
-      → Follows (table.classOf (tableOf b)) (table.labels (tableOf b)) (table.next (tableOf b)) s (take i payload) (scanOf b s (take i payload) room)
-  scan-follows s payload room h P =
-      following.scan-follows b (accepted-image b e) (table.classOf (tableOf b)) (table.labels (tableOf b)) (table.next (tableOf b)) table-says s payload room h P
+  -- Its scans go as its table says.
+  pub accepted-scans : ScansLike (tableOf b) b
+  accepted-scans = scans-like b (accepted-image b e) (tableOf b) table-says
 
--- Some state and byte cost exactly the worst that an accepted image states.
-pub worst-met : (b : List ℕ) → judgeImage b ≡ 0 → (s : ℕ) × (x : ℕ) × (s < states b) × (x < 256) × (look (imageView b) s (classOf b x) .hops ≡ worst b)
-worst-met b e =
-    let A = accepted-image b e in
-    let (s, x, hs, hx, q) = looking.worst-met (imageView b) (classOf b) (omega (arith, A .some-states)) in
-    (s, x, hs, hx, q ∙ sym (A .stated .far))
+-- The scans of the image of a table go as that table says.
+image-scans : (t : List ℕ) (default : ℕ → Option ℕ) → Bytes t → Writable t default → ScansLike t (imageOf t default)
+image-scans t default B W =
+    subst (λ (x : List ℕ). ScansLike x (imageOf t default)) (table-of-image t default B W)
+    (accepted-scans (imageOf t default) (image-of-bytes t default B) (image-of-accepted t default B W))
+
+-- So do those of what compact left.
+pub compacted-scans : (t : List ℕ) (D : ℕ) (room : List ℕ) → Bytes t → compact t D room .number ≡ 0 → ScansLike t (result (compact t D room))
+compacted-scans t D room B e =
+    let (w, W) = compact-leaves t D room e in
+    subst (λ (b : List ℕ). ScansLike t b) (sym w) (image-scans t (defaults t D) B W)
+
+-- And of what write left, with any list that it accepts.
+pub written-scans : (t ds room : List ℕ) → Bytes t → write t ds room .number ≡ 0 → ScansLike t (result (write t ds room))
+written-scans t ds room B e =
+    let (w, W) = write-leaves t ds room e in
+    subst (λ (b : List ℕ). ScansLike t b) (sym w) (image-scans t (listed ds) B W)

@@ -6,6 +6,7 @@ use native.Mathlib.Nat.{not-suc-le-zero, zero-add, suc-add}
 use native.Mathlib.Omega.{arith}
 use Rattle.paper.specs.Below.{or}
 use Rattle.paper.specs.View.{View, chain, chained, longer, steps, andThen, depthOf}
+use Rattle.paper.specs.Sentences.{Ends}
 use Rattle.paper.proofs.Tests.{none≢some}
 use Rattle.paper.proofs.Below.{largest-upper, largest-attained}
 
@@ -23,12 +24,6 @@ abbrev pub Inside : View → Type 0
 Inside v = (s d : ℕ) → s < v .states → v .default s ≡ some d → d < v .states
 
 module _ (v : View) where
-  -- The chain of s ends after l steps at a state without a default.
-  pub record Ends (s l : ℕ) : Type 0 where
-    pub last : ℕ
-    pub reached : steps v l s ≡ some last
-    pub root : v .default last ≡ none
-
   -- One step along the defaults.
   pub steps-next : (i s d : ℕ) → v .default s ≡ some d → steps v (suc i) s ≡ steps v i d
   steps-next i s d e = rw e
@@ -54,11 +49,11 @@ module _ (v : View) where
       go (some d) q e ih = ih d (inside s d h q) e
 
   -- A chain's length is what it says: it ends after so many steps.
-  pub chain-ends : (left s l : ℕ) → chain v left s ≡ some l → Ends s l
+  pub chain-ends : (left s l : ℕ) → chain v left s ≡ some l → Ends v s l
   chain-ends zero s l e = absurd (none≢some none l refl e)
   chain-ends (suc left) s l e = go (v .default s) refl e (λ d k. chain-ends left d k)
     where
-      go : (o : Option ℕ) → v .default s ≡ o → chained o (λ d. chain v left d) ≡ some l → ((d k : ℕ) → chain v left d ≡ some k → Ends d k) → Ends s l
+      go : (o : Option ℕ) → v .default s ≡ o → chained o (λ d. chain v left d) ≡ some l → ((d k : ℕ) → chain v left d ≡ some k → Ends v d k) → Ends v s l
       go none q e ih = rw (← some-same e) (record { last = s; reached = refl; root = q })
       go (some d) q e ih =
           let (k, w, r) = longer-some (chain v left d) l e in
@@ -75,12 +70,12 @@ module _ (v : View) where
       go (some d) e ih = let (k, q, r) = longer-some (chain v left d) l e in omega (arith, ih d k q)
 
   -- A chain that ends after fewer steps than the fuel has that length.
-  pub ends-chain : (left s l : ℕ) → Ends s l → l < left → chain v left s ≡ some l
+  pub ends-chain : (left s l : ℕ) → Ends v s l → l < left → chain v left s ≡ some l
   ends-chain zero s l E h = absurd (not-suc-le-zero h)
   ends-chain (suc left) s zero E h = rw (ap (v .default) (some-same (E .reached)) ∙ E .root)
   ends-chain (suc left) s (suc l) E h = go (v .default s) refl (E .reached) (λ d. ends-chain left d l)
     where
-      go : (o : Option ℕ) → v .default s ≡ o → andThen o (λ d. steps v l d) ≡ some (E .last) → ((d : ℕ) → Ends d l → l < left → chain v left d ≡ some l)
+      go : (o : Option ℕ) → v .default s ≡ o → andThen o (λ d. steps v l d) ≡ some (E .last) → ((d : ℕ) → Ends v d l → l < left → chain v left d ≡ some l)
           → chained o (λ d. chain v left d) ≡ some (suc l)
       go none q e ih = absurd (none≢some none (E .last) refl e)
       go (some d) q e ih = ap longer (ih d (record { last = E .last; reached = e; root = E .root }) (omega arith))

@@ -3,15 +3,11 @@ use mathlib.Core.Path.{_≡_, sym, _∙_}
 use mathlib.Core.List.{List}
 use Prim.Native.Nat.{ℕ}
 use Rattle.paper.specs.Operations.{Built}
-use Rattle.paper.specs.Promises.{IsBuilt, JudgesTable, JudgesImage, Compacts, Writes, Expands, Scans}
+use Rattle.paper.specs.Promises.{IsBuilt, SameBuilt, JudgesTable, JudgesImage, Compacts, Writes, Expands, Scans}
 
 -- Two answers to one question are one.
 one : {A : Type 0} {x y z : A} → x ≡ z → y ≡ z → x ≡ y
 one p q = p ∙ sym q
-
--- Two numbers, lengths and rooms are the same.
-abbrev pub SameBuilt : ℕ → ℕ → List ℕ → ℕ → ℕ → List ℕ → Type 0
-SameBuilt n l r n′ l′ r′ = (n ≡ n′) × (l ≡ l′) × (r ≡ r′)
 
 built-determined : (o : Built) (n l n′ l′ : ℕ) (r r′ : List ℕ) → IsBuilt o n l r → IsBuilt o n′ l′ r′ → SameBuilt n l r n′ l′ r′
 built-determined o n l n′ l′ r r′ a b = (one (a .number-is) (b .number-is), one (a .length-is) (b .length-is), one (a .room-is) (b .room-is))

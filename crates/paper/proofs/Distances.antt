@@ -6,15 +6,10 @@ use Prim.Native.Nat.{ℕ, _+_}
 use native.Mathlib.Omega.{arith}
 use lib.ListN.{length, length-append}
 use Rattle.paper.specs.Forest.{Trees, singles, joined}
-use Rattle.paper.specs.Paths.{Among, Over, Once, Crosses, Leads, Path}
+use Rattle.paper.specs.Paths.{Among, Over, Once, Crosses, Leads, Path, TrueDistances}
 use Rattle.paper.proofs.Join.{Mates}
 use Rattle.paper.proofs.Bridge.{Reached, Bridge, turned, joined-bridge}
 use Rattle.paper.proofs.Paths.{Cut, At, among-append, among-left, among-right, leads-append, leads-cut, find-pair, once-append, once-left, once-right, over-others}
-
--- In every tree there is a path from state to state, as long as their distance; and every path that takes no pair twice stays in its tree and is so long.
-pub record TrueDistances (F : Trees) : Type 0 where
-  pub way : (x y : ℕ) → Mates F x y → (ps : List (ℕ × ℕ)) × (Path (F .added) x y ps) × (length ps ≡ F .distance x y)
-  pub all : (x y : ℕ) (ps : List (ℕ × ℕ)) → Path (F .added) x y ps → Mates F x y × (length ps ≡ F .distance x y)
 
 -- Single states.
 pub singles-true : TrueDistances singles

@@ -8,6 +8,8 @@ pub mod Marks
 pub mod Chain
 pub mod Returns
 pub mod Look
+pub mod Entries
+pub mod Stated
 pub mod Refusals
 pub mod Sentences
 pub mod TableSays

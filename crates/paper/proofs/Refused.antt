@@ -6,7 +6,7 @@ use lib.ListN.{length}
 use Rattle.paper.specs.Refusals.{first}
 use Rattle.paper.specs.Results.{imageOf, tableOf}
 use Rattle.paper.specs.Scan.{Run, scanOf}
-use Rattle.paper.specs.Operations.{Built, building, scanning, filled, listed, compacted, compactGrounds, compact, writeGrounds, write, expandGrounds, expand, scanGrounds, scan}
+use Rattle.paper.specs.Operations.{Unchanged, building, scanning, filled, listed, compacted, compactGrounds, compact, writeGrounds, write, expandGrounds, expand, scanGrounds, scan}
 use Rattle.paper.specs.Promises.{IsBuilt}
 
 -- A refusal answers its number and 0, and leaves the room.
@@ -18,10 +18,6 @@ refused (suc v) number result room e n = rw (← e) (record { number-is = refl; 
 pub built : (number : ℕ) (result room after : List ℕ) (l : ℕ) → number ≡ 0 → l ≡ length result → after ≡ filled result room
     → IsBuilt (building number result room) 0 l after
 built number result room after l e q r = rw e (record { number-is = refl; length-is = q; room-is = r })
-
--- Nothing was built: the length is 0 and the room as it was.
-abbrev pub Unchanged : Built → List ℕ → Type 0
-Unchanged o room = (o .resultLength ≡ 0) × (o .room ≡ room)
 
 building-refused : (number : ℕ) (result room : List ℕ) → ¬ (building number result room .number ≡ 0) → Unchanged (building number result room) room
 building-refused zero result room n = absurd (n refl)

@@ -1,20 +1,23 @@
 -- Each of the grounds 8 to 13 is the paper's sentence, both ways, where no ground before it applies.
 use mathlib.Core.Path.{_≡_, refl, sym, ap, _∙_}
 use mathlib.Core.Bool.{Bool, true, not, true≢false}
-use mathlib.Core.Logic.{inl}
+use mathlib.Core.Logic.{inl, inr}
 use mathlib.Core.Option.{Option, none, some}
 use Prim.Native.Nat.{ℕ, zero, suc, _<_}
-use native.Mathlib.Decide.{decLt}
+use native.Mathlib.Decide.{ℕ-discrete, decLt}
 use native.Mathlib.Omega.{arith}
 use lib.Dec.{ltb, leb}
 use borrow.Author.Tests.{eqb-true, eq-eqb}
 use Rattle.paper.specs.Below.{any, sum, differ, given}
 use Rattle.paper.specs.View.{View, Found, chain, find, endless, gives, defaultBad, defaultGives, recordBad, classFalls, entryClassBad, sameAsDefault, depthOf, worstOf, viewGrounds}
-use Rattle.paper.specs.Sentences.{Some, DefaultWrong, RecordWrong, ClassWrong, Returns, Serves, EntryNeedless, viewSentences}
+use Rattle.paper.specs.Sentences.{Some, DefaultWrong, RecordWrong, ClassWrong, Returns, Serves, EntryNeedless, SomeEntry, viewSentences}
 use Rattle.paper.proofs.Tests.{Holds, holds-less, holds-not-below, holds-differ, holds-or, holds-and, holds-some, none≢some}
 use Rattle.paper.proofs.Chain.{Inside, some-same, chain-short}
 use Rattle.paper.proofs.Returns.{endless-returns, holds-returns}
-use Rattle.paper.proofs.Look.{look-serves, serves-find}
+use Rattle.paper.proofs.Look.{look-serves, serves-find, look-finds}
+use Rattle.paper.proofs.Rising.{Rises}
+use Rattle.paper.proofs.Entries.{full-stores}
+use Rattle.paper.proofs.Stated.{holds-depth, holds-worst}
 use Rattle.paper.proofs.Sentences.{Says}
 
 -- Some of so many for each of so many.
@@ -90,18 +93,39 @@ module _ (v : View) where
       go none q = absurd (n (s, hs, endless-returns v inside s hs q))
       go (some l) q = (l, q)
 
-  -- The grounds 8 to 13.
-  pub view-says : (classOf : ℕ → ℕ) (m depth worst : ℕ) → Says (viewGrounds v classOf m depth worst) (viewSentences v classOf m depth worst)
+  -- Where no entry is wrong, their classes are below k and rise.
+  entries-right : ¬ SomeEntry v (ClassWrong v) → (s : ℕ) → s < v .states → ((j : ℕ) → j < v .count s → v .entryClass s j < v .classes) × Rises (v .entryClass s) (v .count s)
+  entries-right n s hs = (λ j hj. below j hj (decLt (v .entryClass s j) (v .classes)), λ j hj. up j hj (decLt (v .entryClass s j) (v .entryClass s (suc j))))
+    where
+      below : (j : ℕ) → j < v .count s → Dec (v .entryClass s j < v .classes) → v .entryClass s j < v .classes
+      below j hj (yes h) = h
+      below j hj (no h) = absurd (n (s, hs, (j, hj, inl h)))
+
+      up : (j : ℕ) → suc j < v .count s → Dec (v .entryClass s j < v .entryClass s (suc j)) → v .entryClass s j < v .entryClass s (suc j)
+      up j hj (yes h) = h
+      up j hj (no h) = absurd (n (s, hs, (suc j, hj, inr (j, refl, h))))
+
+  -- Where no record is wrong, a root has k entries.
+  root-full : ¬ Some (v .states) (RecordWrong v) → (s : ℕ) → s < v .states → v .default s ≡ none → v .count s ≡ v .classes
+  root-full n s hs q = go (ℕ-discrete (v .count s) (v .classes))
+    where
+      go : Dec (v .count s ≡ v .classes) → v .count s ≡ v .classes
+      go (yes e) = e
+      go (no e) = absurd (n (s, hs, inr (inr (q, e))))
+
+  -- The grounds 8 to 13, where there are states and the class of each byte is one.
+  pub view-says : (classOf : ℕ → ℕ) (m depth worst : ℕ) → 0 < v .states → ((x : ℕ) → x < 256 → classOf x < v .classes) → Says (viewGrounds v classOf m depth worst) (viewSentences v classOf m depth worst)
   unfolding viewGrounds viewSentences
-  view-says classOf m depth worst = (
+  view-says classOf m depth worst states classed = (
     refl,
     holds-or (any (v .states) (recordBad v)) (differ (sum (v .states) (v .count)) m)
         (holds-some (v .states) (recordBad v) (RecordWrong v) (λ s hs. holds-record s)) (holds-differ (sum (v .states) (v .count)) m),
     λ not-8.
-        let inside = inside-list (λ w. not-8 (inl (w .0, w .1, inl (w .2)))) in (
+        let inside = inside-list (λ w. not-8 (inl (w .0, w .1, inl (w .2)))) in
+        let full = root-full (λ w. not-8 (inl w)) in (
           refl,
           holds-pairs (v .states) (v .count) (entryClassBad v) (ClassWrong v) (λ s j hs hj. holds-class s j),
-          λ _. (
+          λ not-9. (
             refl,
             holds-pairs (v .states) (v .count) (λ s j. leb (v .states) (v .entryNext s j)) (λ s j. ¬ (v .entryNext s j < v .states)) (λ s j hs hj. holds-not-below (v .entryNext s j) (v .states)),
             λ _. (
@@ -110,11 +134,16 @@ module _ (v : View) where
               λ not-11. (
                 refl,
                 holds-pairs (v .states) (v .count) (sameAsDefault v) (EntryNeedless v) (λ s j hs hj. holds-needless inside (ends-of inside not-11) s j hs),
-                λ _. (
-                  refl,
-                  holds-or (differ depth (depthOf v)) (differ worst (worstOf v classOf)) (holds-differ depth (depthOf v)) (holds-differ worst (worstOf v classOf)),
-                  λ _. tt,
-                ),
+                λ _.
+                    let right = entries-right not-9 in
+                    let ends = ends-of inside not-11 in
+                    let finds : (s x : ℕ) → s < v .states → x < 256 → (r : Found) × (find v s (classOf x) ≡ some r) =
+                    λ s x hs hx. let (l, e) = ends s hs in
+                    look-finds v (classOf x) inside (λ y hy q. full-stores v y (right y hy .1) (right y hy .0) (full y hy q) (classOf x) (classed x hx)) (v .states) s l hs e in (
+                      refl,
+                      holds-or (differ depth (depthOf v)) (differ worst (worstOf v classOf)) (holds-depth v states ends depth) (holds-worst v states ends classOf finds worst),
+                      λ _. tt,
+                    ),
               ),
             ),
           ),

@@ -6,9 +6,14 @@ pub mod View
 pub mod Image
 pub mod Results
 pub mod Forest
+pub mod Levels
 pub mod Paths
 pub mod Scan
+pub mod Walk
 pub mod Operations
 pub mod Promises
 pub mod Sentences
+pub mod Follows
+pub mod Altered
+pub mod Handed
 pub mod Cases

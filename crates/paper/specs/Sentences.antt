@@ -3,13 +3,13 @@ use mathlib.Core.Path.{_≡_}
 use mathlib.Core.Logic.{_⊎_}
 use mathlib.Core.List.{List, [], _∷_, _++_}
 use mathlib.Core.Option.{Option, none, some}
-use Prim.Native.Nat.{ℕ, suc, _+_, _-_, _*_, _/_, _<_}
+use Prim.Native.Nat.{ℕ, suc, _+_, _-_, _*_, _/_, _≤_, _<_}
 use lib.ListN.{length, take}
 use Rattle.paper.specs.Below.{sum}
 use Rattle.paper.specs.Words.{words, checkWord}
 use Rattle.paper.specs.Table as table
 use Rattle.paper.specs.Table.{tableLength}
-use Rattle.paper.specs.View.{View, stored, steps, depthOf, worstOf}
+use Rattle.paper.specs.View.{View, stored, steps, depthOf}
 use Rattle.paper.specs.Image as image
 use Rattle.paper.specs.Image.{imageLength, imageView}
 use Rattle.paper.specs.Results.{tableView, imageOf, tableOf}
@@ -71,12 +71,28 @@ module _ (v : View) where
   abbrev pub Returns : ℕ → Type 0
   Returns s = (i : ℕ) × (j : ℕ) × (x : ℕ) × (i < j) × (steps v i s ≡ some x) × (steps v j s ≡ some x)
 
+  -- The chain of a state ends after so many steps at a state without a default.
+  pub record Ends (s l : ℕ) : Type 0 where
+    pub last : ℕ
+    pub reached : steps v l s ≡ some last
+    pub root : v .default last ≡ none
+
+  -- The number is that of the longest chain in steps: no chain is longer, and one is so long.
+  pub record LongestChain (depth : ℕ) : Type 0 where
+    pub none-longer : (s l : ℕ) → s < v .states → Ends s l → l ≤ depth
+    pub one-so-long : Some (v .states) (λ s. Ends s depth)
+
   -- The chain of a state gives a target for a class after so many hops: the state so many steps on stores it, and none before stores the class.
   pub record Serves (s c hops target : ℕ) : Type 0 where
     pub server : ℕ
     pub reached : steps v hops s ≡ some server
     pub stores : stored v server c ≡ some target
     pub passed : (i x : ℕ) → i < hops → steps v i s ≡ some x → stored v x c ≡ none
+
+  -- The number is that of the largest hops over all states and all 256 bytes: none costs more, and one costs so many.
+  pub record LargestHops (classOf : ℕ → ℕ) (worst : ℕ) : Type 0 where
+    pub none-more : (s x hops target : ℕ) → s < v .states → x < 256 → Serves s (classOf x) hops target → hops ≤ worst
+    pub one-so-many : Some (v .states) (λ s. Some 256 (λ x. (target : ℕ) × Serves s (classOf x) worst target))
 
   -- An entry is equal to what its state's default's chain gives for its class.
   abbrev pub EntryNeedless : ℕ → ℕ → Type 0
@@ -90,7 +106,7 @@ module _ (v : View) where
       ∷ (10, SomeEntry (λ s j. ¬ (v .entryNext s j < v .states)))
       ∷ (11, Some (v .states) Returns)
       ∷ (12, SomeEntry EntryNeedless)
-      ∷ (13, (¬ (depth ≡ depthOf v)) ⊎ (¬ (worst ≡ worstOf v classOf)))
+      ∷ (13, (¬ LongestChain depth) ⊎ (¬ LargestHops classOf worst))
       ∷ []
 
 -- Images: 1 to 13.

@@ -5,9 +5,9 @@ use Prim.Native.Nat.{ℕ, _≤_, _<_}
 use native.Mathlib.Omega.{arith}
 use lib.ListN.{length}
 use Rattle.paper.specs.Forest.{Trees, d, longest, forest}
-use Rattle.paper.specs.Paths.{Path}
+use Rattle.paper.specs.Paths.{Path, TrueDistances}
 use Rattle.paper.proofs.Join.{Mates}
-use Rattle.paper.proofs.Distances.{TrueDistances, singles-true, joined-true}
+use Rattle.paper.proofs.Distances.{singles-true, joined-true}
 use Rattle.trees.proofs.Farthest.{d-upper, d-attained}
 use Rattle.trees.proofs.Longest.{longest-upper, longest-attained}
 use Rattle.trees.proofs.Greedy.{forest-keeps}

@@ -7,13 +7,9 @@ use native.Mathlib.Omega.{arith}
 use lib.ListN.{length, take, drop, length-append}
 use lib.Seq.{take-at}
 use Rattle.paper.specs.Refusals.{Ground, first}
-use Rattle.paper.specs.Operations.{Built, building}
+use Rattle.paper.specs.Operations.{Built, result, building}
 use Rattle.paper.specs.Promises.{IsBuilt}
 use Rattle.paper.proofs.Refusals.{numbered, past, first-append}
-
--- The result that an operation leaves in its room.
-abbrev pub result : Built → List ℕ
-result o = take (o .resultLength) (o .room)
 
 -- Only without a refusal is the number 0, and the result is then what was built.
 pub built-result : (g : ℕ) (bytes room : List ℕ) → building g bytes room .number ≡ 0 → (g ≡ 0) × (result (building g bytes room) ≡ bytes)

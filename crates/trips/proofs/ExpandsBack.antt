@@ -8,11 +8,11 @@ use Rattle.paper.specs.Words.{Bytes}
 use Rattle.paper.specs.Refusals.{first}
 use Rattle.paper.specs.Results.{imageOf}
 use Rattle.paper.specs.Forest.{defaults}
-use Rattle.paper.specs.Operations.{building, listed, compacted, compactGrounds, compact, writeGrounds, write, expand}
+use Rattle.paper.specs.Operations.{result, building, listed, compacted, compactGrounds, compact, writeGrounds, write, expand}
 use Rattle.paper.specs.Promises.{IsBuilt, Compacts, Writes, Expands}
 use Rattle.trips.proofs.Writable.{Writable}
 use Rattle.trips.proofs.ImageOf.{image-of-accepted, table-of-image}
-use Rattle.trips.proofs.Building.{result, built-result, result-promised}
+use Rattle.trips.proofs.Building.{built-result, result-promised}
 use Rattle.trips.proofs.Accepts.{expand-accepts, write-writable, compact-writable}
 
 -- Expand of the image of a table that can be written gives the table.

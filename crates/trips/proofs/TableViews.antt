@@ -12,7 +12,7 @@ use Rattle.paper.specs.View.{View, Found, here, further, served, stored, chain,
 use Rattle.paper.specs.Results.{differs, entriesOf, tableView}
 use Rattle.paper.proofs.Tests.{none≢some}
 use Rattle.paper.proofs.Chain.{longer-some}
-use Rattle.trips.proofs.Stored.{stored-entry, entry-stored}
+use Rattle.paper.proofs.Entries.{stored-entry, entry-stored}
 use Rattle.trips.proofs.Picked.{Picked, picked}
 
 module _ (t : List ℕ) (default : ℕ → Option ℕ) where

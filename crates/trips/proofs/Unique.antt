@@ -12,9 +12,11 @@ use Rattle.paper.specs.View.{View, stored, find, gives}
 use Rattle.paper.proofs.Below.{bool-false}
 use Rattle.paper.proofs.Tests.{none≢some}
 use Rattle.paper.proofs.Rising.{same-row}
+use Rattle.facts.proofs.Finds.{count-has, root-stores, found}
 use Rattle.facts.proofs.ViewFacts.{Sound}
 use Rattle.trips.proofs.Agree.{Agree}
-use Rattle.trips.proofs.Stored.{targetOf, has, goes, has-some, stored-entry, entries-row, count-has, root-stores, found, goes-own, goes-on, entry-goes}
+use Rattle.paper.proofs.Entries.{has, has-some, stored-entry, entries-row}
+use Rattle.trips.proofs.Stored.{targetOf, goes, goes-own, goes-on, entry-goes}
 
 -- By the next states a state needs to store a class: it has no default, or goes elsewhere than its default.
 abbrev pub needs : (ℕ → ℕ → ℕ) → ℕ → ℕ → Option ℕ → Bool

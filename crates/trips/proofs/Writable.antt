@@ -16,11 +16,11 @@ use Rattle.paper.proofs.Below.{any-at}
 use Rattle.paper.proofs.Tests.{given-some}
 use Rattle.paper.proofs.Counts.{count-all}
 use Rattle.paper.proofs.Rising.{rank-all, count-le-bound}
+use Rattle.paper.proofs.Entries.{has, entries-row}
 use Rattle.paper.proofs.Chain.{Inside}
 use Rattle.facts.proofs.TableFacts.{accepted-table}
 use Rattle.facts.proofs.ViewFacts.{Sound}
 use Rattle.facts.proofs.EntryFacts.{default-inside}
-use Rattle.trips.proofs.Stored.{has, entries-row}
 use Rattle.trips.proofs.Picked.{Picked}
 use Rattle.trips.proofs.TableViews.{keeps, entries-picked, table-stores, table-gives}
 

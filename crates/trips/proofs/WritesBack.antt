@@ -10,14 +10,14 @@ use Rattle.paper.specs.Refusals.{first}
 use Rattle.paper.specs.Image as image
 use Rattle.paper.specs.Image.{defaultFrom}
 use Rattle.paper.specs.Results.{defaultNumber, tableOf, defaultsOf}
-use Rattle.paper.specs.Operations.{building, listed, write, expandGrounds, expand, judgeImage}
+use Rattle.paper.specs.Operations.{result, building, listed, write, expandGrounds, expand, judgeImage}
 use Rattle.paper.specs.Promises.{IsBuilt, Writes, Expands}
 use Rattle.facts.proofs.ImageFacts.{accepted-image}
 use Rattle.trips.proofs.Spans.{spans-all}
 use Rattle.trips.proofs.Numbers.{length-words, read-words}
 use Rattle.trips.proofs.Labels.{default-back}
 use Rattle.trips.proofs.TableOf.{table-reads, table-of-writable, image-of-defaults}
-use Rattle.trips.proofs.Building.{result, built-result, result-promised}
+use Rattle.trips.proofs.Building.{built-result, result-promised}
 use Rattle.trips.proofs.Accepts.{expand-judged, write-accepts}
 
 -- The list holds the defaults of an image.

@@ -6,7 +6,7 @@ use native.Mathlib.Omega.{arith}
 use borrow.Author.Needs.{needs}
 use denote.Ref.{now}
 use lib.ListN.{getD}
-use Rattle.paper.proofs.Levels.{row, rows}
+use Rattle.paper.specs.Levels.{row, rows}
 use Rattle.greedy.specs.Good.{Becomes, weightIn}
 use Rattle.greedy.proofs.Pair.{taken-short}
 use Rattle.greedy.proofs.Rows.{rows-start, row-starts, row-dropped, row-added, rows-more}
