@@ -1,6 +1,7 @@
 /* Kamordast: rule tables compacted into images, judged, expanded and scanned. Every function is proved to meet the definition paper.
  *
- * A slice is a pointer and a length. The pointer is never null, not even for a length of 0, and a room overlaps no other slice.
+ * A slice is a pointer and a length. The pointer is never null, not even for a length of 0, and a room overlaps no other slice. A caller that breaks this is
+ * promised nothing.
  * `refused` is 0, or the number of the refusal (docs/OPERATORS.md); then every other number is 0 and no lent byte has changed.
  */
 #ifndef KAMORDAST_H
