@@ -1,14 +1,17 @@
 -- Laws of the code's enums and what they stand for.
 use mathlib.Core.Path.{_≡_, refl, sym, ap, _∙_}
 use mathlib.Core.Bool.{Bool, true, false}
+use mathlib.Core.List.{List}
 use mathlib.Core.Option.{Option, none, some}
-use Prim.Native.Nat.{ℕ}
+use Prim.Native.Nat.{ℕ, _+_, _*_}
 use native.Mathlib.Omega.{arith}
 use lib.Dec.{eqb}
 use borrow.Author.Tests.{eq-eqb, ne-eqb, eqb-true}
-use Rattle.paper.specs.Image.{defaultFrom}
-use Rattle.image.specs.Forms.{numberOf, defaultOf, eitherFallback, fallbackFrom, stepOf}
+use Rattle.paper.specs.Words.{number16}
+use Rattle.paper.specs.Image.{recordsAt, defaultFrom, default}
+use Rattle.image.specs.Forms.{numberOf, defaultOf, eitherFallback, fallbackFrom, recordAt, stepOf}
 use Rattle.image.specs.declared.Fallback.the-variants.{Root, FallsTo}
+use Rattle.image.specs.declared.Record.{Record}
 use Rattle.image.specs.declared.Step.{Step}
 use Rattle.image.specs.declared.Step.the-variants.{Stored, Nothing}
 
@@ -39,6 +42,11 @@ default-from d = go (eqb d 65535) refl
     go : (b : Bool) → eqb d 65535 ≡ b → defaultOf (eitherFallback b Root (FallsTo d)) ≡ defaultFrom d
     go true e = rw e
     go false e = rw e
+
+-- The default of a state is where its record falls.
+pub record-default : (b : List ℕ) (s : ℕ) (r : Record) → r ≡ recordAt b (recordsAt b + 4 * s) → default b s ≡ defaultOf (r .fallback)
+unfolding default
+record-default b s r e = sym (ap (λ (x : Record). defaultOf (x .fallback)) e ∙ default-from (number16 b (recordsAt b + 4 * s)))
 
 -- A step that answers a target found one stored.
 pub step-stored : (o : Option ℕ) (r : Step) (t : ℕ) → r ≡ stepOf o → r ≡ Stored t → o ≡ some t

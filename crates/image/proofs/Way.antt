@@ -1,25 +1,26 @@
 -- The look-up on its way along the defaults of an accepted image.
-use mathlib.Core.Path.{_≡_, refl, sym, ap, _∙_}
-use mathlib.Core.Bool.{Bool, true, false}
+use mathlib.Core.Path.{_≡_, sym, ap, _∙_}
+use mathlib.Core.Logic.{_⊎_, inl, inr}
 use mathlib.Core.List.{List}
 use mathlib.Core.Option.{Option, none, some}
 use Prim.Native.Nat.{ℕ, suc, _+_, _*_, _<_}
 use native.Mathlib.Nat.{zero-add, add-zero}
 use native.Mathlib.Omega.{arith}
-use Rattle.paper.specs.Below.{or, when, differ}
-use Rattle.paper.specs.Words.{number16}
+use Rattle.paper.specs.Below.{or}
 use Rattle.paper.specs.Sentences.{Serves}
 use Rattle.paper.specs.View.{Found, here, stored, chain, look}
-use Rattle.paper.specs.Image.{states, classes, recordsAt, defaultFrom, default, entriesPart, imageView}
+use Rattle.paper.specs.Image.{states, classes, recordsAt, default, entriesPart, imageView}
 use Rattle.paper.proofs.Tests.{none≢some}
-use Rattle.paper.proofs.Chain.{some-same, chain-short, chain-default}
+use Rattle.paper.proofs.Chain.{chain-short, chain-default}
 use Rattle.paper.proofs.Look.{serves-own, serves-on, serves-find}
 use Rattle.facts.proofs.Finds.{root-stores}
 use Rattle.facts.proofs.ImageFacts.{AcceptedImage}
-use Rattle.image.specs.Forms.{stepOf, storedIn}
+use Rattle.image.specs.Forms.{defaultOf, recordAt, stepOf, storedIn}
+use Rattle.image.specs.declared.Fallback.the-variants.{Root, FallsTo}
+use Rattle.image.specs.declared.Record.{Record}
 use Rattle.image.specs.declared.Step.{Step}
 use Rattle.image.specs.declared.Step.the-variants.{Stored, Nothing}
-use Rattle.image.proofs.Cases.{step-stored, step-nothing}
+use Rattle.image.proofs.Cases.{record-default, step-stored, step-nothing}
 use Rattle.image.proofs.Parts.{part-stored}
 use Rattle.image.proofs.Accepted.{accepted-laid}
 
@@ -38,14 +39,6 @@ pub record Way (b : List ℕ) (state class s hops : ℕ) : Type 0 where
 pub record Onward (b : List ℕ) (state class s hops d : ℕ) : Type 0 where
   pub way : Way b state class d (hops + 1)
   pub nearer : stepsLeft b d + 1 ≡ stepsLeft b s
-
--- A default that a record names is the number that stands there.
-default-number : (x d : ℕ) → defaultFrom x ≡ some d → x ≡ d
-default-number x d e = go (differ x 65535) e
-  where
-    go : (o : Bool) → when o x ≡ some d → x ≡ d
-    go true q = some-same q
-    go false q = absurd (none≢some none d refl q)
 
 -- A chain that ends after l steps has l left.
 chain-left : (b : List ℕ) (s l : ℕ) → chain (imageView b) (states b) s ≡ some l → stepsLeft b s ≡ l
@@ -78,27 +71,26 @@ module _ (b : List ℕ) (A : AcceptedImage b) where
           (serves-find (imageView b) class state (stepsLeft b state) hops t q (chain-short (imageView b) (states b) state (stepsLeft b state) q) own)
 
       -- Where nothing is stored here it goes on at the default.
-      way-on : stored (imageView b) s class ≡ none → (d : ℕ) → d ≡ number16 b (recordsAt b + 4 * s) → Onward b state class s hops d
-      unfolding default
-      way-on e d q = go (default b s) refl
-        where
-          go : (o : Option ℕ) → default b s ≡ o → Onward b state class s hops d
-          go none r = let (t, w) = root-stores (imageView b) (A .right) s class (W .inside) hc r in absurd (none≢some (stored (imageView b) s class) t e w)
-          go (some x) r =
-              let d-is : d ≡ x = q ∙ default-number (number16 b (recordsAt b + 4 * s)) x r in
-              let (k, w, l) = chain-default (imageView b) (states b) s x (stepsLeft b s) (W .ends) r in
-              let below : x < states b = A .right .inside s x (W .inside) r in
-              let left : stepsLeft b x ≡ k = chain-left b x k w in
-              let on : Way b state class x (hops + 1) =
-              record {
-                inside = below;
-                ends = ends-left x below;
-                few = omega (arith, W .few);
-                leads = λ h t S.
-                    let further : hops + suc h ≡ hops + 1 + h = omega arith in
-                    rw (← further) (W .leads (suc h) t (serves-on (imageView b) class s x h t e r S));
-              } in
-              rw d-is (record { way = on; nearer = omega arith })
+      way-on : stored (imageView b) s class ≡ none → (d : ℕ) → default b s ≡ some d → Onward b state class s hops d
+      way-on e d r =
+          let (k, w, l) = chain-default (imageView b) (states b) s d (stepsLeft b s) (W .ends) r in
+          let below : d < states b = A .right .inside s d (W .inside) r in
+          let left : stepsLeft b d ≡ k = chain-left b d k w in
+          record {
+            way = record {
+              inside = below;
+              ends = ends-left d below;
+              few = omega (arith, W .few);
+              leads = λ h t S.
+                  let further : hops + suc h ≡ hops + 1 + h = omega arith in
+                  rw (← further) (W .leads (suc h) t (serves-on (imageView b) class s d h t e r S));
+            };
+            nearer = omega arith;
+          }
+
+      -- Nothing is stored at a state with a default only: a root stores every class.
+      no-root : stored (imageView b) s class ≡ none → ¬ (default b s ≡ none)
+      no-root e r = let (t, w) = root-stores (imageView b) (A .right) s class (W .inside) hc r in none≢some (stored (imageView b) s class) t e w
 
       module _ (row : List ℕ) (step : Step) (row-is : row ≡ entriesPart b s) (step-is : step ≡ stepOf (storedIn row class)) where
         -- The step over the part is the state's.
@@ -111,6 +103,7 @@ module _ (b : List ℕ) (A : AcceptedImage b) where
             let found = way-found t (step-stored (stored (imageView b) s class) step t step-here q) in
             (sym (ap (λ (f : Found). f .target) found), sym (ap (λ (f : Found). f .hops) found))
 
-        -- One that answers nothing sends it on.
-        pub way-sent : step ≡ Nothing → (d : ℕ) → d ≡ number16 b (recordsAt b + 4 * s) → Onward b state class s hops d
-        way-sent q = way-on (step-nothing (stored (imageView b) s class) step step-here q)
+        -- One that answers nothing sends it on to where the record falls, and that is no root.
+        pub way-sent : step ≡ Nothing → (r : Record) → r ≡ recordAt b (recordsAt b + 4 * s) → (d : ℕ) → (r .fallback ≡ FallsTo d) ⊎ (r .fallback ≡ Root) → Onward b state class s hops d
+        way-sent q r e d (inl x) = way-on (step-nothing (stored (imageView b) s class) step step-here q) d (record-default b s r e ∙ ap defaultOf x)
+        way-sent q r e d (inr x) = absurd (no-root (step-nothing (stored (imageView b) s class) step step-here q) (record-default b s r e ∙ ap defaultOf x))

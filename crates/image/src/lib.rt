@@ -170,7 +170,13 @@ pub fn look_up(
                 };
             }
             Step::Nothing => {
-                s = words::get16(image, records + 4 * (s as usize));
+                let record = record_at(image, records + 4 * (s as usize));
+                let fallback = record.fallback;
+                s = match fallback {
+                    Fallback::FallsTo(d) => d,
+                    // Never reached, as a root stores every class; and the number of no state costs no test.
+                    Fallback::Root => 65535,
+                };
                 hops += 1;
             }
         }

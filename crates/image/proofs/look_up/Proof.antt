@@ -1,4 +1,5 @@
 -- The loop's invariant: the look-up has come to s after the hops counted. The measure is the steps that are left of the chain.
+use mathlib.Core.Logic.{inl, inr, ⊎-elim}
 use Prim.Native.Nat.{_+_, _*_, _≤_}
 use native.Mathlib.Omega.{arith}
 use lib.ListN.{length}
@@ -45,36 +46,44 @@ returns c =
 enum-told : tie.Need-enum-told Inv-loop μ-loop
 enum-told c = search needs
 
-cast-get16 : tie.Need-cast-get16 Inv-loop μ-loop
-cast-get16 c = search needs
+cast-record-at : tie.Need-cast-record-at Inv-loop μ-loop
+cast-record-at c = search needs
 
-mul-get16 : tie.Need-mul-get16 Inv-loop μ-loop
-mul-get16 c = search needs
+mul-record-at : tie.Need-mul-record-at Inv-loop μ-loop
+mul-record-at c = search needs
 
 -- The record of the state stands in the image.
 record-here : (c : tie.At-loop Inv-loop μ-loop) → c .before .before .args .records + 4 * c .loop .s + 4 ≤ length (c .before .before .args .image .now)
 record-here c = let t = c .before .before in rw (t .pre .0 .records-is) (record-in (t .args .image .now) (t .pre .0 .accepted) (c .loop .s) (c .loop .inv .inside))
 
-add-get16 : tie.Need-add-get16 Inv-loop μ-loop
-add-get16 c = search (needs, record-here (c .before .before .before .before))
+add-record-at : tie.Need-add-record-at Inv-loop μ-loop
+add-record-at c = search (needs, record-here (c .before .before .before .before))
 
-get16-requires : tie.Need-get16-requires Inv-loop μ-loop
-get16-requires c κs = omega (arith, record-here (c .before .before .before .before))
+record-at-requires : tie.Need-record-at-requires Inv-loop μ-loop
+record-at-requires c κs = omega (arith, record-here (c .before .before .before .before))
 
--- The place at the head of the loop, from that behind the read default.
-abbrev head : tie.After-get16 Inv-loop μ-loop → tie.At-loop Inv-loop μ-loop
-head c = c .before .before .before .before .before
+enum-known-fallback : tie.Need-enum-known-fallback Inv-loop μ-loop
+enum-known-fallback c = search needs
 
--- Where nothing is stored the way goes on at the default.
-onward : (c : tie.After-get16 Inv-loop μ-loop)
-    → Onward (head c .before .before .args .image .now) (head c .before .before .args .state) (head c .before .before .args .class) (head c .loop .s) (head c .loop .hops) (c .get16 .result)
+enum-told-2 : tie.Need-enum-told-2 Inv-loop μ-loop
+enum-told-2 c = search needs
+
+-- The place at the head of the loop, from that behind the record's two cases.
+abbrev head : tie.At-match2-came Inv-loop μ-loop → tie.At-loop Inv-loop μ-loop
+head c = c .before .before .before .before .before .before
+
+-- Where nothing is stored the way goes on to where the record falls.
+onward : (c : tie.At-match2-came Inv-loop μ-loop)
+    → Onward (head c .before .before .args .image .now) (head c .before .before .args .state) (head c .before .before .args .class) (head c .loop .s) (head c .loop .hops) (c .match2 .s)
 onward c =
-    let step = c .before .before .before in
+    let read = c .before in
+    let step = read .before .before .before in
     let l = head c in
     let t = l .before .before in
     way-sent (t .args .image .now) (t .pre .0 .accepted) (t .args .state) (t .args .class) (t .pre .1) (t .pre .2) (l .loop .s) (l .loop .hops) (l .loop .inv)
-    (step .before .entries-of .result .now) (step .stored-in .result) (step .before .entries-of .ensures) (step .stored-in .ensures) (c .before .enum-told .given .1)
-    (c .get16 .result) (rw (← (t .pre .0 .records-is)) (c .get16 .ensures))
+    (step .before .entries-of .result .now) (step .stored-in .result) (step .before .entries-of .ensures) (step .stored-in .ensures) (read .before .enum-told .given .1)
+    (read .record-at .result) (rw (← (t .pre .0 .records-is)) (read .record-at .ensures)) (c .match2 .s)
+    (⊎-elim (λ w. inl (rw (w .3) (w .1 .given .1))) (λ w. inr (w .1 .given .1)) (c .match2 .came))
 
 add-hops : tie.Need-add-hops Inv-loop μ-loop
 add-hops c = let o = onward c in search (needs, o .nearer, head c .loop .inv .few)
@@ -98,10 +107,12 @@ look-up-spec =
     enum-known-t
     returns
     enum-told
-    cast-get16
-    mul-get16
-    add-get16
-    get16-requires
+    cast-record-at
+    mul-record-at
+    add-record-at
+    record-at-requires
+    enum-known-fallback
+    enum-told-2
     add-hops
     loop-less
     loop-again)
