@@ -1,40 +1,28 @@
--- Counting the records that name a default, one by one.
-use mathlib.Core.Path.{_≡_, ap₂, _∙_}
-use mathlib.Core.Logic.{_⊎_, inl, inr}
+-- Counting the states that have a default, one by one.
+use mathlib.Core.Path.{_≡_, sym, ap, _∙_}
 use mathlib.Core.List.{List}
+use mathlib.Core.Option.{Option}
 use Prim.Native.Nat.{ℕ, _+_, _*_, _≤_, _<_}
 use native.Mathlib.Numerals.{add-one}
 use native.Mathlib.Omega.{arith}
-use borrow.Author.Tests.{eq-eqb, ne-eqb}
 use Rattle.paper.specs.Below.{howMany, bit, given}
-use Rattle.paper.specs.Words.{number16}
-use Rattle.paper.specs.Image.{states, recordsAt, default, defaultFrom}
-use Rattle.figures.specs.Figures.{defaultsIn}
+use Rattle.paper.specs.Image.{states, recordsAt, default}
+use Rattle.paper.proofs.Counts.{bit-le}
+use Rattle.image.specs.Forms.{defaultOf, recordAt}
+use Rattle.image.specs.declared.Record.{Record}
+use Rattle.image.proofs.Cases.{record-default}
 
-module _ (b : List ℕ) (records : ℕ) where
-  -- How many of the first i records name a default.
+module _ (b : List ℕ) where
+  -- How many of the first i states have a default.
   abbrev pub named : ℕ → ℕ
-  named i = howMany i (λ s. given (defaultFrom (number16 b (records + 4 * s))))
+  named i = howMany i (λ s. given (default b s))
 
-  -- Of the first i of n records so many name a default.
-  abbrev pub Named : ℕ → ℕ → ℕ → Type 0
-  Named n i count = (i ≤ n) × (count ≡ named i) × (count ≤ i)
+  -- Of the first i states so many have a default.
+  abbrev pub Named : ℕ → ℕ → Type 0
+  Named i count = (i ≤ states b) × (count ≡ named i) × (count ≤ i)
 
-  -- A number that is not 65535 counts one.
-  one : (x : ℕ) → ¬ (x ≡ 65535) → bit (given (defaultFrom x)) ≡ 1
-  one x e = rw (ne-eqb x 65535 e)
-
-  -- 65535 counts none.
-  no-one : (x : ℕ) → x ≡ 65535 → bit (given (defaultFrom x)) ≡ 0
-  no-one x e = rw (eq-eqb x 65535 e)
-
-  -- One record more: counted where it names a default.
-  pub named-more : (n i count next x : ℕ) → Named n i count → i < n → x ≡ number16 b (records + 4 * i)
-      → ((¬ (x ≡ 65535)) × (next ≡ count + 1)) ⊎ ((x ≡ 65535) × (next ≡ count)) → Named n (i + 1) next
-  named-more n i count next x (h, e, l) less q (inl (y, z)) = (omega arith, rw (add-one i) (omega (arith, one (number16 b (records + 4 * i)) (rw q at y))), omega arith)
-  named-more n i count next x (h, e, l) less q (inr (y, z)) = (omega arith, rw (add-one i) (omega (arith, no-one (number16 b (records + 4 * i)) (rw q at y))), omega arith)
-
--- All records of an image together: its defaults.
-pub named-all : (b : List ℕ) (records n count : ℕ) → records ≡ recordsAt b → n ≡ states b → count ≡ named b records n → count ≡ defaultsIn b
-unfolding default
-named-all b records n count e f h = h ∙ ap₂ (λ (r i : ℕ). named b r i) e f
+  -- One state more: its record counts one where it falls to another.
+  pub named-more : (i count one : ℕ) (r : Record) → Named i count → i < states b → r ≡ recordAt b (recordsAt b + 4 * i) → one ≡ bit (given (defaultOf (r .fallback))) → Named (i + 1) (count + one)
+  named-more i count one r (h, e, l) less q f =
+      let here : bit (given (default b i)) ≡ one = ap (λ (o : Option ℕ). bit (given o)) (record-default b i r q) ∙ sym f in
+      (omega arith, rw (add-one i) (omega (arith, here)), omega (arith, here, bit-le (given (default b i))))

@@ -1,12 +1,11 @@
 // The figures of a table compacted with a path bound, read out of the image itself.
 ghost use mathlib.Core.Path.{_≡_};
-ghost use Prim.Native.Nat.{_+_, _*_, _≤_, _<_};
-ghost use lib.ListN.{length};
-ghost use Rattle.paper.specs.Below.{howMany, given};
-ghost use Rattle.paper.specs.Words.{number16};
-ghost use Rattle.paper.specs.Image.{defaultFrom, depth, worst, entries};
+ghost use Rattle.paper.specs.Below.{bit, given};
+ghost use Rattle.paper.specs.Image.{states, depth, worst, entries};
 ghost use Rattle.paper.specs.Operations.{compact};
 ghost use Rattle.facts.proofs.ImageFacts.{AcceptedImage};
+ghost use Rattle.image.specs.Forms.{defaultOf};
+ghost use Rattle.image.specs.Laid.{Laid};
 ghost use Rattle.figures.specs.Figures.{defaultsIn, Shows};
 
 // The figures of a table compacted: 0 or the refusal's number, depth, worst, entries stored, defaults, length.
@@ -19,16 +18,26 @@ pub struct Figures {
     pub bytes: u32,
 }
 
-// How many of n records name a default.
-fn defaults_in(image: &[u8], records: usize, n: usize) -> u16
-    requires { ⌜ (n ≤ 512) × (records + 4 * n ≤ length (now image)) ⌝ }
-    ensures { λ r. ⌜ r ≡ howMany n (λ s. given (defaultFrom (number16 (now (image .entry)) (records + 4 * s)))) ⌝ }
+// Counts one for a state that falls to another, and none for a root.
+fn falls(fallback: kamordast::Fallback) -> u16
+    ensures { λ r. ⌜ r ≡ bit (given (defaultOf fallback)) ⌝ }
+{
+    match fallback {
+        kamordast::Fallback::Root => 0,
+        kamordast::Fallback::FallsTo(_) => 1,
+    }
+}
+
+// How many of the n states of an image have a default. Each record is read through the view of the image.
+fn defaults_in(image: &[u8], n: u16) -> u16
+    requires { ⌜ Laid (now image) × (n ≡ states (now image)) ⌝ }
+    ensures { λ r. ⌜ r ≡ defaultsIn (now (image .entry)) ⌝ }
 {
     let mut count: u16 = 0;
     for s in 0..n {
-        if words::get16(image, records + 4 * s) != 65535 {
-            count += 1;
-        }
+        let record = kamordast::record_from(image, s);
+        let fallback = record.fallback;
+        count += falls(fallback);
     }
     count
 }
@@ -39,15 +48,13 @@ fn figures_in(image: &[u8], bytes: u32) -> Figures
     ensures { λ r. ⌜ (r .refused ≡ 0) × (r .depth ≡ depth (now (image .entry))) × (r .worst ≡ worst (now (image .entry))) × (r .stored ≡ entries (now (image .entry)))
         × (r .defaults ≡ defaultsIn (now (image .entry))) × (r .bytes ≡ bytes) ⌝ }
 {
-    let n = words::get16(image, 0) as usize;
-    let m = words::get32(image, 8);
-    let records = image::records_at(image, n, m as usize);
-    let defaults = defaults_in(image, records, n);
+    let counts = kamordast::counted(image);
+    let defaults = defaults_in(image, counts.n);
     Figures {
         refused: 0,
         depth: words::get16(image, 6),
         worst: words::get16(image, image.len() - 4),
-        stored: m,
+        stored: counts.m,
         defaults: defaults,
         bytes: bytes,
     }

@@ -1,12 +1,22 @@
 // The front door: the operations as Rattle and C call them. Each answers for all input that it can be handed.
+// For a Rattle caller that opens an accepted image once and reads it, the view and its readers are handed on; what they ask stands in crate `view`.
 use answers::Built;
 use answers::Scanned;
 pub use build::compact;
 pub use build::write;
 pub use expand::expand;
+pub use image::Fallback;
+pub use image::Record;
 pub use judge::judge_image;
 pub use scan::scan;
 pub use table::judge_table;
+pub use view::Counts;
+pub use view::View;
+pub use view::counted;
+pub use view::label_of;
+pub use view::open;
+pub use view::record_from;
+pub use view::record_of;
 ghost use Rattle.paper.specs.Promises.{JudgesTable, JudgesImage, Writes, Compacts, Expands, Scans};
 
 // Judges a plain table: 0, or the refusal's number.
