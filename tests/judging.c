@@ -1,5 +1,5 @@
-/* The judges against the independent reading: random and damaged tables and images, every pair of neighbouring grounds, every beginning and every
- * altered byte of three images. Buffers end at a guard page. */
+/* The judges against the independent reading: random and damaged tables and images, every pair of neighbouring grounds, check words whose carry
+ * comes round, every beginning and every altered byte of three images. Buffers end at a guard page. */
 #include <stdio.h>
 #include <string.h>
 
@@ -235,6 +235,36 @@ static void edges(void) {
     expect(judged(1, other, 286), 2, "a state that names itself and stores nothing");
 }
 
+/* The check word where the carry comes round: words that come to a multiple of 65535 (the check word is 0, and 65535 is refused), a label of 65535 before one
+ * of 1, and the largest image with all labels 65535. */
+static void check_words(int rounds) {
+    while (rounds--) {
+        size_t length = some_image(), labels = 268;
+        set16(image, labels, 0);
+        mend_check_word(image, length);
+        set16(image, labels, number16(image, length - 2));
+        set16(image, length - 2, 0);
+        expect(judged(1, image, length), 0, "words that come to a multiple of 65535");
+        set16(image, length - 2, 65535);
+        expect(judged(1, image, length), 5, "the other number that such words leave");
+        if (number16(image, 0) < 2) continue;
+        set16(image, labels, 65535);
+        set16(image, labels + 2, 1);
+        mend_check_word(image, length);
+        expect(judged(1, image, length), 0, "65535 and then 1");
+    }
+    size_t length = make_table(table, 512, 256, 0);
+    memset(table + 262, 255, 1024);
+    memset(defaults, 255, 1024);
+    reference_built built = reference_write(table, length, defaults, 1024, image, sizeof image);
+    expect(built.length, LONGEST_IMAGE, "the length of the largest image");
+    expect(judged(1, image, LONGEST_IMAGE), 0, "the largest image");
+    kamordast_built written = kamordast_write(table, length, defaults, 1024, other, sizeof other);
+    if (written.length != LONGEST_IMAGE || memcmp(other, image, LONGEST_IMAGE)) fail("the largest image is written as the reference does", cases);
+    image[LONGEST_IMAGE - 14] ^= 1;
+    expect(judged(1, image, LONGEST_IMAGE), 5, "the largest image with its last entry altered");
+}
+
 /* Of three images every proper beginning and every copy with one byte altered is refused. */
 static void damage(void) {
     for (int round = 0; round < 3; round++) {
@@ -266,6 +296,7 @@ int main(void) {
     seed(3);
     neighbours();
     edges();
+    check_words(200);
     short_ones();
     random_tables(2000);
     random_images(1500);

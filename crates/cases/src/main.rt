@@ -1,4 +1,4 @@
-// The program `cases`: the cases of the definition paper that are not starred, run on T from standard input and compared.
+// The program `cases`: the cases of the definition paper that are not starred, run on T from standard input and compared; and check words by themselves.
 
 // Prints what was tried and whether it came out right.
 fn say(tried: &[u8], right: bool) {
@@ -75,6 +75,26 @@ fn try_text(table: &[u8]) {
     say(b"30,001 bytes are too long", prints(&long, b"too long\n"));
 }
 
+// The check word where the carry comes round, and of no words at all.
+fn try_check_word() {
+    say(
+        b"the check word of no words is 65535",
+        words::check_word(b"") == 65535,
+    );
+    say(
+        b"the check word of 65535 and 1 is 65534",
+        words::check_word(b"\xff\xff\x01\0") == 65534,
+    );
+    say(
+        b"the check word of 1 and 65534 is 0",
+        words::check_word(b"\x01\0\xfe\xff") == 0,
+    );
+    say(
+        b"the check word of three words of 65535 is 0",
+        words::check_word(b"\xff\xff\xff\xff\xff\xff") == 0,
+    );
+}
+
 fn main() {
     let mut input = [0u8; 294];
     let length = io::read_full(0, &mut input);
@@ -82,4 +102,5 @@ fn main() {
     try_write(table);
     try_scan(table);
     try_text(table);
+    try_check_word();
 }

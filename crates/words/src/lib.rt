@@ -3,7 +3,6 @@ ghost use mathlib.Core.Path.{_≡_};
 ghost use Prim.Native.Nat.{_+_, _%_, _≤_, _<_, _^_};
 ghost use lib.ListN.{length, take, drop};
 ghost use Rattle.paper.specs.Words.{number16, number32, bytes16, bytes32, words, checkWord};
-ghost use Rattle.paper.proofs.Words.{total, rep};
 ghost use Rattle.words.specs.Placed.{placed};
 
 // A byte as a number of 16 bits.
@@ -59,35 +58,20 @@ pub fn copy(from: &[u8], start: usize, count: usize, room: &mut [u8], at: usize)
     }
 }
 
-// The plain sum of all words.
-fn add_up(b: &[u8]) -> u64
-    requires { ⌜ (length (now b) % 2 ≡ 0) × (length (now b) < 2 ^ 32) ⌝ }
-    ensures { λ r. ⌜ r ≡ total (words (now (b .entry))) ⌝ }
-{
-    let mut sum: u64 = 0;
-    let mut i = 0;
-    while i < b.len() {
-        sum += get16(b, i) as u64;
-        i += 2;
-    }
-    sum
-}
-
-// Brings round what is above 16 bits until the sum fits in them.
-fn fold(sum: u64) -> u16
-    ensures { λ r. ⌜ r ≡ rep sum ⌝ }
-{
-    let mut left = sum;
-    while 65535 < left {
-        left = left % 65536 + left / 65536;
-    }
-    left as u16
-}
-
-// The check word of all words.
+// The check word of all words, as the boot ROM runs it: in sixteen bits, first word to last. A sum that comes out smaller than the word has wrapped, and the carry comes round.
 pub fn check_word(b: &[u8]) -> u16
     requires { ⌜ (length (now b) % 2 ≡ 0) × (length (now b) < 2 ^ 32) ⌝ }
     ensures { λ r. ⌜ r ≡ checkWord (words (now (b .entry))) ⌝ }
 {
-    65535 - fold(add_up(b))
+    let mut sum: u16 = 0;
+    let mut i = 0;
+    while i < b.len() {
+        let word = get16(b, i);
+        i += 2;
+        sum = std::num::wrapping_add_u16(sum, word);
+        if sum < word {
+            sum += 1;
+        }
+    }
+    65535 - sum
 }
