@@ -8,7 +8,7 @@
 enum { CASES = 10000, ROOM = 8192 };
 
 static uint8_t table[ROOM], image[ROOM], list[64], by_archive[ROOM], by_c[ROOM];
-static uint32_t grounds[18];
+static uint32_t grounds[19];
 
 /* Two answers with their rooms are one. */
 static void same(const char *operation, kamordast_built a, kamordast_built b, uint32_t number) {
@@ -37,7 +37,9 @@ int main(void) {
         memset(by_archive, 0, ROOM);
         memset(by_c, 0, ROOM);
         same("judge a table", (kamordast_built){kamordast_judge_table(table, length), 0}, (kamordast_built){plain_judge_table(table, length), 0}, number);
-        same("compact", kamordast_compact(table, length, (uint16_t)bound, by_archive, room_length), plain_compact(table, length, bound, number % 2, by_c, room_length), number);
+        for (uint32_t order = 0; order <= 3; order++)
+            same("compact", kamordast_compact_in_order(table, length, order, (uint16_t)bound, by_archive, room_length),
+                 plain_compact(table, length, order, bound, number % 2, by_c, room_length), number);
         same("write", kamordast_write(table, length, list, list_length, by_archive, room_length), plain_write(table, length, list, list_length, by_c, room_length), number);
         if (built.refused) continue;
         if (below(3)) damage(image, below(8) ? 268 : 0, built.length - (below(8) ? 12 : 0));
@@ -48,7 +50,7 @@ int main(void) {
         same("expand", kamordast_expand(image, built.length, by_archive, room_length), plain_expand(image, built.length, by_c, room_length), number);
     }
     printf("plain C and the archive agree on %u small cases; answers by number:", (unsigned)CASES);
-    for (uint32_t ground = 0; ground < 18; ground++)
+    for (uint32_t ground = 0; ground < 19; ground++)
         if (grounds[ground]) printf(" %u: %u", (unsigned)ground, (unsigned)grounds[ground]);
     printf("\n");
     return 0;

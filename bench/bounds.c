@@ -1,5 +1,5 @@
-/* Size and hops against the bound: for each table named, compacts it with bounds 0 to 12 and with 65535, which binds nothing. Prints the file, n, k, the bound,
- * the table's and the image's bytes, and the hops on average over all pairs of a state and a byte. */
+/* Size and hops against the bound: for each table named, compacts it in each order with bounds 0 to 12 and with 65535, which binds nothing. Prints the file, n, k, the
+ * order, the bound, the table's and the image's bytes, and the hops on average over all pairs of a state and a byte. */
 #include <stdio.h>
 
 #include "kamordast.h"
@@ -26,12 +26,14 @@ int main(int count, char **names) {
         if (!file) fail(names[i], 0);
         size_t length = fread(table, 1, sizeof table, file);
         fclose(file);
-        for (uint32_t bound = 0; bound <= 13; bound++) {
-            uint16_t taken = bound == 13 ? 65535 : (uint16_t)bound;
-            kamordast_built built = kamordast_compact(table, length, taken, image, sizeof image);
-            if (built.refused) fail(names[i], built.refused);
-            printf("%s %u %u %u %zu %u %.6f\n", names[i], (unsigned)number16(table, 0), (unsigned)number16(table, 2), (unsigned)taken, length, (unsigned)built.length, average_hops(built.length));
-        }
+        for (uint32_t order = 0; order <= 2; order++)
+            for (uint32_t bound = 0; bound <= 13; bound++) {
+                uint16_t taken = bound == 13 ? 65535 : (uint16_t)bound;
+                kamordast_built built = kamordast_compact_in_order(table, length, order, taken, image, sizeof image);
+                if (built.refused) fail(names[i], built.refused);
+                printf("%s %u %u %u %u %zu %u %.6f\n", names[i], (unsigned)number16(table, 0), (unsigned)number16(table, 2), (unsigned)order, (unsigned)taken, length,
+                       (unsigned)built.length, average_hops(built.length));
+            }
     }
     return 0;
 }

@@ -11,9 +11,9 @@
 char case_name[96];
 static word_list list;
 
-/* The image that compact makes of the table with a bound, and its defaults as a list for write. */
-static void use_compacted(uint32_t bound) {
-    kamordast_built built = kamordast_compact(given.table, given.table_length, (uint16_t)bound, given.image, sizeof given.image);
+/* The image that compact makes of the table in an order with a bound, and its defaults as a list for write. */
+static void use_compacted(uint32_t order, uint32_t bound) {
+    kamordast_built built = kamordast_compact_in_order(given.table, given.table_length, order, (uint16_t)bound, given.image, sizeof given.image);
     if (built.refused) fail("the table is refused", built.refused);
     uint32_t n = number16(given.image, 0);
     given.bound = bound;
@@ -33,7 +33,7 @@ static void use_written(const char *name) {
 
 void use_words(uint32_t k, uint32_t bound) {
     given.table_length = make_word_list(&list, k, given.table);
-    use_compacted(bound);
+    use_compacted(0, bound);
     snprintf(case_name, sizeof case_name, "words, n %u, k %u, D %u", (unsigned)number16(given.table, 0), (unsigned)k, (unsigned)bound);
 }
 
@@ -54,9 +54,11 @@ void use_largest(const char *shape, uint32_t bound) {
     given.table_length = make_table(given.table, n, k, 200);
     for (uint32_t s = 0; s < n && *shape != 'r'; s++)
         for (uint32_t c = 0; c < k; c++) set16(given.table, 262 + 2 * n + 2 * (s * k + c), next_of(shape, s, c));
-    use_compacted(bound);
+    use_compacted(0, bound);
     snprintf(case_name, sizeof case_name, "%s rows, n %u, k %u, D %u", shape, (unsigned)n, (unsigned)k, (unsigned)bound);
 }
+
+void use_order(uint32_t order) { use_compacted(order, given.bound); }
 
 void use_flat(void) {
     given.table_length = make_flat(given.table, given.defaults);

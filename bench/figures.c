@@ -70,8 +70,26 @@ static void random_row(const operation *o) {
     row(o);
 }
 
+static const char *const shapes[] = {"equal", "path", "random"};
+
+/* Compact in an order above 0, on both word lists and the largest tables, with three bounds. */
+static void order_rows(const operation *o, uint32_t order) {
+    static const uint32_t bounds[] = {1, 3, 65535};
+    for (size_t i = 0; i < 3; i++) {
+        for (uint32_t k = 27; k <= 209; k += 182) {
+            use_words(k, bounds[i]);
+            use_order(order);
+            row(o);
+        }
+        for (size_t shape = 0; shape < 3; shape++) {
+            use_largest(shapes[shape], bounds[i]);
+            use_order(order);
+            row(o);
+        }
+    }
+}
+
 int main(void) {
-    const char *const shapes[] = {"equal", "path", "random"};
     word_rows(&judging_a_table, 2);
     random_row(&judging_a_table);
     word_rows(&judging_an_image, 8);
@@ -84,6 +102,8 @@ int main(void) {
         }
     word_rows(&compact_seeking, 2);
     random_row(&compact_seeking);
+    order_rows(&compact_bgs, 1);
+    order_rows(&compact_ref, 2);
     word_rows(&write_with_a_list, 2);
     random_row(&write_with_a_list);
     word_rows(&expand, 2);

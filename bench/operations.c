@@ -25,8 +25,12 @@ static void judge_image_archive(void) { by_archive.numbers = answered(kamordast_
 static void judge_image_c(void) { by_c.numbers = answered(plain_judge_image(IMAGE)); }
 
 static void compact_archive(void) { by_archive.numbers = built(kamordast_compact(TABLE, (uint16_t)given.bound, ROOM(by_archive))); }
-static void compact_c(void) { by_c.numbers = built(plain_compact(TABLE, given.bound, 0, ROOM(by_c))); }
-static void compact_c_seeking(void) { by_c.numbers = built(plain_compact(TABLE, given.bound, 1, ROOM(by_c))); }
+static void compact_c(void) { by_c.numbers = built(plain_compact(TABLE, 0, given.bound, 0, ROOM(by_c))); }
+static void compact_c_seeking(void) { by_c.numbers = built(plain_compact(TABLE, 0, given.bound, 1, ROOM(by_c))); }
+static void compact_bgs_archive(void) { by_archive.numbers = built(kamordast_compact_in_order(TABLE, 1, (uint16_t)given.bound, ROOM(by_archive))); }
+static void compact_bgs_c(void) { by_c.numbers = built(plain_compact(TABLE, 1, given.bound, 0, ROOM(by_c))); }
+static void compact_ref_archive(void) { by_archive.numbers = built(kamordast_compact_in_order(TABLE, 2, (uint16_t)given.bound, ROOM(by_archive))); }
+static void compact_ref_c(void) { by_c.numbers = built(plain_compact(TABLE, 2, given.bound, 0, ROOM(by_c))); }
 
 static void write_archive(void) { by_archive.numbers = built(kamordast_write(TABLE, DEFAULTS, ROOM(by_archive))); }
 static void write_c(void) { by_c.numbers = built(plain_write(TABLE, DEFAULTS, ROOM(by_c))); }
@@ -46,6 +50,8 @@ const operation judging_a_table = {"judge a table", judge_table_archive, judge_t
 const operation judging_an_image = {"judge an image", judge_image_archive, judge_image_c, NULL};
 const operation compact = {"compact", compact_archive, compact_c, NULL};
 const operation compact_seeking = {"compact, C seeking", compact_archive, compact_c_seeking, NULL};
+const operation compact_bgs = {"compact, order 1", compact_bgs_archive, compact_bgs_c, NULL};
+const operation compact_ref = {"compact, order 2", compact_ref_archive, compact_ref_c, NULL};
 const operation write_with_a_list = {"write", write_archive, write_c, NULL};
 const operation expand = {"expand", expand_archive, expand_c, NULL};
 const operation scan = {"scan, no judging", scan_archive, scan_c, judge_image_archive};

@@ -39,15 +39,15 @@ typedef struct {
 /* Fills the chains and answers 1; 0 where a chain returns to a state. */
 int plain_order(const uint16_t *defaults, size_t n, plain_chains *chains);
 
-/* The defaults of the bounded greedy forest of an accepted table. `seeking` tells how the pairs of one weight are found (plain_forest.c). */
-void plain_defaults(const uint8_t *table, size_t length, uint32_t bound, int seeking, uint16_t *defaults);
+/* The defaults of the bounded greedy forest of an accepted table in an order. `seeking` tells how the pairs of one weight are found in order 0 (plain_forest.c). */
+void plain_defaults(const uint8_t *table, size_t length, uint32_t order, uint32_t bound, int seeking, uint16_t *defaults);
 
 /* The image of an accepted table with defaults, or refusal 16. */
 kamordast_built plain_image(const uint8_t *table, size_t length, const uint16_t *defaults, const plain_chains *chains, uint8_t *room, size_t room_length);
 
 uint32_t plain_judge_table(const uint8_t *table, size_t length);
 uint32_t plain_judge_image(const uint8_t *image, size_t length);
-kamordast_built plain_compact(const uint8_t *table, size_t length, uint32_t bound, int seeking, uint8_t *room, size_t room_length);
+kamordast_built plain_compact(const uint8_t *table, size_t length, uint32_t order, uint32_t bound, int seeking, uint8_t *room, size_t room_length);
 kamordast_built plain_write(const uint8_t *table, size_t length, const uint8_t *list, size_t list_length, uint8_t *room, size_t room_length);
 kamordast_built plain_expand(const uint8_t *image, size_t length, uint8_t *room, size_t room_length);
 

@@ -1,5 +1,6 @@
 /* The bounded greedy forest in plain C, the algorithm of crate `forest` without its proofs: weights kept once, parents turned at each joining. The pairs of
- * one weight are found by a test of each pair, as the crate does, or, seeking, by the C library's search for a byte. */
+ * one weight are found by a test of each pair, as the crate does, or, seeking, by the C library's search for a byte. In the orders 1 and 2 the best pair of a weight
+ * is sought again after each joining, with a floor for each row, as the crate does too. */
 #include "plain.h"
 
 typedef struct {
@@ -59,7 +60,69 @@ static void seek(joined_trees *f, size_t n, uint32_t bound, size_t w) {
     }
 }
 
-void plain_defaults(const uint8_t *table, size_t length, uint32_t bound, int seeking, uint16_t *defaults) {
+enum { NO_KEY = 65536 };
+
+typedef struct {
+    uint32_t key;
+    size_t u, v;
+} pick;
+
+/* The longest path of each state's tree. */
+static void longest_paths(const joined_trees *f, size_t n, uint16_t *longest) {
+    uint16_t most[512] = {0};
+    for (size_t x = 0; x < n; x++)
+        if (most[f->tree[x]] < f->d[x]) most[f->tree[x]] = f->d[x];
+    for (size_t x = 0; x < n; x++) longest[x] = most[f->tree[x]];
+}
+
+static inline uint32_t key_of(uint32_t order, uint32_t across, uint16_t lu, uint16_t lv) {
+    uint32_t longest = lu > lv ? lu : lv;
+    return order == 1 ? across : across > longest ? across - longest : 0;
+}
+
+/* The best pair of a row. */
+static pick best_in_row(const joined_trees *f, const uint16_t *longest, size_t n, uint32_t order, uint32_t bound, size_t w, size_t u) {
+    pick best = {NO_KEY, 0, 0};
+    for (size_t v = u + 1; v < n; v++) {
+        uint32_t across = (uint32_t)f->d[u] + f->d[v] + 1;
+        if (weights[u * 512 + v] != w || f->tree[u] == f->tree[v] || across > bound) continue;
+        uint32_t key = key_of(order, across, longest[u], longest[v]);
+        if (key < best.key) best = (pick){key, u, v};
+    }
+    return best;
+}
+
+/* Joins the best pair of one weight as long as there is one. No key of a row is below its floor; in order 2 a joining may lower keys, but in a row without a pair
+ * there never is one again. */
+static void join_best(joined_trees *f, size_t n, uint32_t order, uint32_t bound, size_t w) {
+    uint32_t floor[512] = {0};
+    for (;;) {
+        uint16_t longest[512];
+        pick best = {NO_KEY, 0, 0};
+        longest_paths(f, n, longest);
+        for (size_t u = 0; u < n; u++) {
+            if (floor[u] >= best.key) continue;
+            pick row = best_in_row(f, longest, n, order, bound, w, u);
+            floor[u] = row.key;
+            if (row.key < best.key) best = row;
+        }
+        if (best.key == NO_KEY) return;
+        join(f, n, best.u, best.v);
+        for (size_t u = 0; u < n && order == 2; u++)
+            if (floor[u] < NO_KEY) floor[u] = 0;
+    }
+}
+
+/* Joins the best pairs of each weight that some pair has. */
+static void join_all_best(joined_trees *f, size_t n, uint32_t order, uint32_t bound, size_t top) {
+    uint8_t seen[256] = {0};
+    for (size_t u = 0; u < n; u++)
+        for (size_t v = u + 1; v < n; v++) seen[weights[u * 512 + v]] = 1;
+    for (size_t w = top; w > 0; w--)
+        if (seen[w]) join_best(f, n, order, bound, w);
+}
+
+void plain_defaults(const uint8_t *table, size_t length, uint32_t order, uint32_t bound, int seeking, uint16_t *defaults) {
     size_t n = plain_number16(table), k = plain_number16(table + 2);
     const uint8_t *rows = table + length - 2 * n * k;
     joined_trees f;
@@ -73,7 +136,9 @@ void plain_defaults(const uint8_t *table, size_t length, uint32_t bound, int see
         f.d[s] = 0;
         f.parent[s] = f.tree[s] = (uint16_t)s;
     }
-    for (size_t w = k - 1; w > 0; w--) (seeking ? seek : test_each)(&f, n, bound, w);
+    if (order) join_all_best(&f, n, order, bound, k - 1);
+    else
+        for (size_t w = k - 1; w > 0; w--) (seeking ? seek : test_each)(&f, n, bound, w);
     for (size_t s = 0; s < n; s++) {
         size_t first = s;
         for (size_t x = 0; x < n; x++)

@@ -21,13 +21,16 @@ static const char help[] =
     "usage: kamordast COMMAND ...\n"
     "\n"
     "  judge FILE                     is FILE an image, or a table?\n"
-    "  compact TABLE BOUND IMAGE      the image of TABLE with path bound BOUND, 0 to 65535\n"
+    "  compact [--order N] TABLE BOUND IMAGE\n"
+    "                                 the image of TABLE with path bound BOUND, 0 to 65535\n"
     "  write TABLE DEFAULTS IMAGE     the image of TABLE with a list of defaults, two bytes a state\n"
     "  expand IMAGE TABLE             the table of IMAGE\n"
     "  scan IMAGE PAYLOAD [STATE]     the reports of PAYLOAD, from STATE or the start state\n"
     "  bounds TABLE                   depth, worst, entries, defaults and bytes with bounds 0 to 3\n"
-    "  forest [--dot] TABLE BOUND     which state falls back to which, as lines or for Graphviz\n"
+    "  forest [--dot] [--order N] TABLE BOUND\n"
+    "                                 which state falls back to which, as lines or for Graphviz\n"
     "\n"
+    "Orders of pairs of equal weight: 0 by pair (where none is named), 1 the shortest path over the pair (BGS), 2 the least growth (REF).\n"
     "Exit status: 0 done, 1 refused (the number and what to do on standard error), 2 usage, 3 file trouble.\n"
     "A file is written beside its place, read back and judged before it gets its name.\n";
 
@@ -83,11 +86,26 @@ static int judge(const char *name) {
     return REFUSED;
 }
 
-static int compact(const char *table, const char *bound_word, const char *image) {
+/* Reads a table and compacts it into the room, in an order and with a bound as they were typed. Answers DONE, or USAGE where a word is no number. An order too
+ * large for 32 bits is as unknown as any above 2. */
+static int compacted(const char *order_word, const char *table, const char *bound_word, kamordast_built *built) {
     long bound = number_of(bound_word, 65535);
+    if (!*order_word || order_word[strspn(order_word, "0123456789")]) return usage("the order is a number");
     if (bound < 0) return usage("the bound is a number from 0 to 65535");
+    unsigned long long order = strtoull(order_word, NULL, 10);
     size_t length = read_file(table, input, LONGEST_TABLE);
-    return store(table, kamordast_compact(input, length, (uint16_t)bound, room, sizeof room), image, is_image);
+    *built = kamordast_compact_in_order(input, length, order > UINT32_MAX ? UINT32_MAX : (uint32_t)order, (uint16_t)bound, room, sizeof room);
+    return DONE;
+}
+
+/* What a refusal of compact is said of: the order, or the table. */
+static const char *refused_word(kamordast_built built, const char *order_word, const char *table) { return built.refused == 18 ? order_word : table; }
+
+static int compact(const char *order_word, const char *table, const char *bound_word, const char *image) {
+    kamordast_built built;
+    int status = compacted(order_word, table, bound_word, &built);
+    if (status != DONE) return status;
+    return store(refused_word(built, order_word, table), built, image, is_image);
 }
 
 static int write_image(const char *table, const char *defaults, const char *image) {
@@ -137,12 +155,11 @@ static int bounds(const char *table) {
     return DONE;
 }
 
-static int forest(const char *table, const char *bound_word, int dot) {
-    long bound = number_of(bound_word, 65535);
-    if (bound < 0) return usage("the bound is a number from 0 to 65535");
-    size_t length = read_file(table, input, LONGEST_TABLE);
-    kamordast_built built = kamordast_compact(input, length, (uint16_t)bound, room, sizeof room);
-    if (built.refused) return refuse(table, built.refused);
+static int forest(const char *order_word, const char *table, const char *bound_word, int dot) {
+    kamordast_built built;
+    int status = compacted(order_word, table, bound_word, &built);
+    if (status != DONE) return status;
+    if (built.refused) return refuse(refused_word(built, order_word, table), built.refused);
     uint32_t n = number16(room, 0);
     size_t records = records_at(room, built.length);
     if (dot) printf("digraph forest {\n  rankdir = BT;\n  node [shape = circle];\n");
@@ -161,6 +178,19 @@ static int forest(const char *table, const char *bound_word, int dot) {
     return DONE;
 }
 
+/* Takes an option out of the words behind the command: whether it is there, and the word behind it where it has one. */
+static int option(int *count, char **words, const char *name, const char **value) {
+    for (int i = 2; i < *count; i++) {
+        int taken = value ? 2 : 1;
+        if (strcmp(words[i], name) || i + taken > *count) continue;
+        if (value) *value = words[i + 1];
+        *count -= taken;
+        for (; i < *count; i++) words[i] = words[i + taken];
+        return 1;
+    }
+    return 0;
+}
+
 static int run(int count, char **words) {
     if (count < 2) return usage("a command is wanted");
     const char *command = words[1];
@@ -169,15 +199,21 @@ static int run(int count, char **words) {
         return DONE;
     }
     if (!strcmp(command, "judge")) return count == 3 ? judge(words[2]) : usage("judge wants FILE");
-    if (!strcmp(command, "compact")) return count == 5 ? compact(words[2], words[3], words[4]) : usage("compact wants TABLE BOUND IMAGE");
+    if (!strcmp(command, "compact")) {
+        const char *order = "0";
+        option(&count, words, "--order", &order);
+        return count == 5 ? compact(order, words[2], words[3], words[4]) : usage("compact wants [--order N] TABLE BOUND IMAGE");
+    }
     if (!strcmp(command, "write")) return count == 5 ? write_image(words[2], words[3], words[4]) : usage("write wants TABLE DEFAULTS IMAGE");
     if (!strcmp(command, "expand")) return count == 4 ? expand(words[2], words[3]) : usage("expand wants IMAGE TABLE");
     if (!strcmp(command, "scan"))
         return count == 4 || count == 5 ? scan(words[2], words[3], count == 5 ? words[4] : NULL) : usage("scan wants IMAGE PAYLOAD [STATE]");
     if (!strcmp(command, "bounds")) return count == 3 ? bounds(words[2]) : usage("bounds wants TABLE");
     if (!strcmp(command, "forest")) {
-        int dot = count > 2 && !strcmp(words[2], "--dot");
-        return count == 4 + dot ? forest(words[2 + dot], words[3 + dot], dot) : usage("forest wants [--dot] TABLE BOUND");
+        const char *order = "0";
+        option(&count, words, "--order", &order);
+        int dot = option(&count, words, "--dot", NULL);
+        return count == 4 ? forest(order, words[2], words[3], dot) : usage("forest wants [--dot] [--order N] TABLE BOUND");
     }
     fprintf(stderr, "kamordast: there is no command %s\ntry: kamordast --help\n", command);
     return USAGE;

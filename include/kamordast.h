@@ -35,8 +35,12 @@ uint32_t kamordast_judge_table(const uint8_t *table, size_t table_length);
 /* Judges an image: 0, or the refusal's number. An image is to be used only after it was judged 0, and only as long as it stays unchanged. */
 uint32_t kamordast_judge_image(const uint8_t *image, size_t image_length);
 
-/* Compacts a table with a path bound into an image at the front of the room; the rest of the room stays. */
+/* Compacts a table with a path bound into an image at the front of the room; the rest of the room stays. This is order 0. */
 kamordast_built kamordast_compact(const uint8_t *table, size_t table_length, uint16_t bound, uint8_t *room, size_t room_length);
+
+/* The same with the forest in an order: among pairs of equal weight order 0 goes by pair; order 1 (BGS) takes the pair with the shortest longest path over it
+ * first; order 2 (REF) the pair that lengthens its trees' longest path least. An order above 2 is refused with 18. */
+kamordast_built kamordast_compact_in_order(const uint8_t *table, size_t table_length, uint32_t order, uint16_t bound, uint8_t *room, size_t room_length);
 
 /* Writes a table with a list of defaults, 16 bits for each state and 65535 for none, into an image at the front of the room. */
 kamordast_built kamordast_write(const uint8_t *table, size_t table_length, const uint8_t *defaults, size_t defaults_length, uint8_t *room,

@@ -1,6 +1,7 @@
-# Draws docs/size-and-hops.svg from the lines of bench/bounds.c: file, n, k, bound, table bytes, image bytes, hops on average.
+# Draws docs/size-and-hops.svg from the lines of bench/bounds.c: file, n, k, order, bound, table bytes, image bytes, hops on average.
 BEGIN {
     split("#0072b2 #d55e00 #007a5a", colour, " ")
+    split("none;7 3;2 3", dashes, ";") # of the orders 0, 1 and 2
     top = 74; high = 280; step = 23
 }
 !($1 in number) {
@@ -8,13 +9,13 @@ BEGIN {
     name[tables] = $1
     sub(/.*\//, "", name[tables])
     sub(/\.table$/, "", name[tables])
-    told[tables] = $2 " states, " $3 " classes, plain table " $5 " bytes"
+    told[tables] = $2 " states, " $3 " classes, plain table " $6 " bytes"
 }
 {
     t = number[$1]
-    slot = $4 > 12 ? 14 : $4
-    share[t, slot] = 100 * $6 / $5
-    hops[t, slot] = $7
+    slot = $5 > 12 ? 14 : $5
+    share[t, $4, slot] = 100 * $7 / $6
+    hops[t, $4, slot] = $8
 }
 function text(x, y, how, words) { printf "  <text x=\"%.1f\" y=\"%.1f\" %s>%s</text>\n", x, y, how, words }
 function stroke(x1, y1, x2, y2, how) { printf "  <line x1=\"%.1f\" y1=\"%.1f\" x2=\"%.1f\" y2=\"%.1f\" %s/>\n", x1, y1, x2, y2, how }
@@ -42,13 +43,14 @@ function panel(left, most, each, unit, title,    value, slot, right) {
     stroke(left, top, left, top + high, "stroke=\"#333333\"")
     text((left + right) / 2, top + high + 39, "text-anchor=\"middle\"", "bound D (none: 65535, which binds nothing)")
 }
-# The line of one table: whole from D 0 to 12, dotted to the case without a bound. A value above the axis is written beside its mark.
-function curve(left, most, t, of,    slot, path) {
-    for (slot = 0; slot <= 12; slot++) path = path sprintf("%s%.1f %.1f", slot ? " L " : "M ", across(left, slot), up(of[t, slot], most))
-    printf "  <path d=\"%s\" fill=\"none\" stroke=\"%s\" stroke-width=\"2\"/>\n", path, colour[t]
-    stroke(across(left, 12), up(of[t, 12], most), across(left, 14), up(of[t, 14], most), "stroke=\"" colour[t] "\" stroke-width=\"2\" stroke-dasharray=\"2 4\"")
-    for (slot = 0; slot <= 14; slot++) if (slot != 13) mark(t, across(left, slot), up(of[t, slot], most))
-    if (of[t, 14] > most) text(across(left, 14) + 4, up(most, most) - 9, "text-anchor=\"end\" fill=\"" colour[t] "\"", sprintf("%.1f, above the axis", of[t, 14]))
+# The line of one table in one order, from D 0 to 12 and pale to the case without a bound. A value above the axis is written beside its mark.
+function curve(left, most, t, order, of,    slot, path, how) {
+    how = "stroke=\"" colour[t] "\" stroke-width=\"2\" stroke-dasharray=\"" dashes[order + 1] "\""
+    for (slot = 0; slot <= 12; slot++) path = path sprintf("%s%.1f %.1f", slot ? " L " : "M ", across(left, slot), up(of[t, order, slot], most))
+    printf "  <path d=\"%s\" fill=\"none\" %s/>\n", path, how
+    stroke(across(left, 12), up(of[t, order, 12], most), across(left, 14), up(of[t, order, 14], most), how " stroke-opacity=\"0.4\"")
+    for (slot = 0; slot <= 14; slot++) if (slot != 13) mark(t, across(left, slot), up(of[t, order, slot], most))
+    if (of[t, order, 14] > most) text(across(left, 14) + 4, up(most, most) - 9 - 14 * order, "text-anchor=\"end\" fill=\"" colour[t] "\"", sprintf("order %d: %.1f, above the axis", order, of[t, order, 14]))
 }
 END {
     print "<svg xmlns=\"http://www.w3.org/2000/svg\" viewBox=\"0 0 900 496\" width=\"900\" height=\"496\" font-family=\"sans-serif\" font-size=\"12\" fill=\"#222222\">"
@@ -57,9 +59,9 @@ END {
     panel(66, 200, 25, "%", "Image, as a share of the plain table")
     stroke(66, up(100, 200), across(66, 14) + 14, up(100, 200), "stroke=\"#555555\" stroke-dasharray=\"6 4\"")
     text(across(66, 14) + 12, up(100, 200) + 14, "text-anchor=\"end\" font-size=\"11\" fill=\"#555555\"", "the plain table")
-    for (t = 1; t <= tables; t++) curve(66, 200, t, share)
+    for (t = 1; t <= tables; t++) for (order = 0; order <= 2; order++) curve(66, 200, t, order, share)
     panel(510, 3.5, 0.5, "", "Hops for a byte, on average")
-    for (t = 1; t <= tables; t++) curve(510, 3.5, t, hops)
+    for (t = 1; t <= tables; t++) for (order = 0; order <= 2; order++) curve(510, 3.5, t, order, hops)
     for (t = 1; t <= tables; t++) {
         stroke(66, 412 + 20 * t, 94, 412 + 20 * t, "stroke=\"" colour[t] "\" stroke-width=\"2\"")
         mark(t, 80, 412 + 20 * t)
@@ -67,6 +69,6 @@ END {
     }
     text(510, 436, "", "Hops are averaged over all pairs of a state and a byte,")
     text(510, 456, "", "each counted once; a payload may meet more or fewer.")
-    text(510, 476, "", "A dotted line leads to the case without a bound.")
+    text(510, 476, "", "Whole lines: order 0. Dashes: order 1, BGS. Dots: order 2, REF.")
     print "</svg>"
 }

@@ -1,4 +1,4 @@
-/* Write, expand and compact against the independent reading: random tables and lists, valid and damaged, rooms exact, one short, longer and empty.
+/* Write, expand and compact, in every order, against the independent reading: random tables and lists, valid and damaged, rooms exact, one short, longer and empty.
  * Buffers begin or end at a guard page, by turns; every byte of every room and every lent byte is compared. */
 #include <stdio.h>
 #include <string.h>
@@ -9,8 +9,9 @@
 
 static guarded lent_input, lent_list, lent_room;
 static uint8_t table[LONGEST_TABLE], image[LONGEST_IMAGE], wanted[LONGEST_IMAGE + 64], defaults[1100];
+static uint32_t order; /* of the forest, where compact is run now */
 static uint64_t cases;
-static uint64_t given[18];
+static uint64_t given[19];
 
 enum operation { WRITE, EXPAND, COMPACT };
 
@@ -33,8 +34,10 @@ static size_t compared(enum operation o, const uint8_t *input, size_t length, si
         answer = kamordast_expand(in, length, room, room_length);
         break;
     default:
-        right = reference_compact(input, length, bound, wanted, room_length);
-        answer = kamordast_compact(in, length, (uint16_t)bound, room, room_length);
+        right = reference_compact(input, length, order, bound, wanted, room_length);
+        /* Order 0 by either name. */
+        answer = order == 0 && cases % 2 ? kamordast_compact(in, length, (uint16_t)bound, room, room_length)
+                                         : kamordast_compact_in_order(in, length, order, (uint16_t)bound, room, room_length);
     }
     if (answer.refused != right.refused) {
         printf("operation %d: %u for %u: ", o, answer.refused, right.refused);
@@ -148,6 +151,16 @@ static void papers_cases(void) {
     rows_of(8, 3, eight);
     if (compared(COMPACT, table, 262 + 16 + 48, 0, 2, 340) != 340) fail("eight equal rows", 0);
     expect_image(340, 3, 1, 1, "eight equal rows");
+    /* Of the requests: BGS gives four pairs, REF the star at 0. */
+    order = 1;
+    if (compared(COMPACT, table, 262 + 16 + 48, 0, 2, 376) != 376) fail("eight equal rows, BGS", 0);
+    expect_image(376, 12, 1, 1, "eight equal rows, BGS");
+    for (uint32_t s = 0; s < 8; s++)
+        if (number16(wanted, 376 - 12 - 48 - 32 + 4 * s) != (s % 2 ? s - 1 : 65535)) fail("eight equal rows, the pairs of BGS", s);
+    order = 2;
+    if (compared(COMPACT, table, 262 + 16 + 48, 0, 2, 340) != 340) fail("eight equal rows, REF", 0);
+    expect_image(340, 3, 1, 1, "eight equal rows, REF");
+    order = 0;
     /* Figure 4.1 of document 000: with D 3 and more 6 entries and 5 defaults. */
     static const uint16_t figure[] = {1, 2, 3, 0, 1, 2, 3, 4, 1, 2, 3, 4, 1, 5, 3, 4, 1, 2, 3, 0, 1, 2, 3, 4};
     static const uint32_t cost[] = {24, 16, 13, 11};
@@ -174,6 +187,41 @@ static void forests(int rounds) {
     }
 }
 
+/* Small tables dense in ties, in every order; growth is cut at 0 only from a longest path of 4 on, so some have 24 states. */
+static void orders(int rounds) {
+    while (rounds--) {
+        uint32_t n = 1 + below(rounds % 10 ? 12 : 24), k = 1 + below(5), bound = below(8) ? below(7) : 65535;
+        size_t length = make_table(table, n, k, 128 + below(129));
+        for (order = 0; order <= 2; order++) compared(COMPACT, table, length, 0, bound, LONGEST_IMAGE);
+    }
+    order = 0;
+}
+
+/* Tables of up to 512 states in the orders 1 and 2, at all kinds of bounds and weights. */
+static void large_orders(int rounds) {
+    static const uint32_t bounds[] = {1, 2, 3, 4, 8, 20, 65535};
+    while (rounds--) {
+        uint32_t n = rounds % 25 ? 1 + below(160) : 512 - below(100), k = rounds % 4 ? 2 + below(20) : 256 - below(100);
+        size_t length = make_table(table, n, k, rounds % 4 ? 180 + below(70) : 100 + below(150));
+        for (order = 1; order <= 2; order++) compared(COMPACT, table, length, 0, bounds[below(7)], LONGEST_IMAGE);
+    }
+    order = 0;
+}
+
+/* An order above 2 is refused before all else: a table of no bytes, one that is refused, a room of no bytes. */
+static void no_such_order(void) {
+    static const uint32_t none[] = {3, 4, 255, 256, 257, 258, 65535, 65536, 65537, 65538, 0x80000000, 0xffffffff};
+    size_t length = make_table(table, 5, 3, 200);
+    for (size_t i = 0; i < sizeof none / sizeof *none; i++) {
+        order = none[i];
+        compared(COMPACT, table, 0, 0, 2, 0);
+        compared(COMPACT, table, length - 1, 0, 2, 400);
+        with_rooms(COMPACT, table, length, 0, 2);
+    }
+    for (order = 0; order <= 2; order++) compared(COMPACT, table, 0, 0, 2, 0);
+    order = 0;
+}
+
 int main(void) {
     lent_input = guard(LONGEST_IMAGE);
     lent_list = guard(1100);
@@ -182,8 +230,11 @@ int main(void) {
     papers_cases();
     round_trips(2200);
     forests(1000);
+    no_such_order();
+    orders(20000);
+    large_orders(100);
     printf("building: %llu cases agree\n  given  ", (unsigned long long)cases);
-    for (int r = 0; r < 18; r++)
+    for (int r = 0; r < 19; r++)
         if (given[r]) printf(" %d:%llu", r, (unsigned long long)given[r]);
     printf("\n");
     return 0;

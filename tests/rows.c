@@ -12,7 +12,7 @@
 /* Stands in a text where the next item of a list begins. */
 enum { ITEM = 1 };
 
-enum { SEED = 25, FILES = 15, WHOLE = 7, WIDTH = 150, MOST_BYTES = 1000, MOST_IMAGES = 40, MOST_CHANGES = 40 };
+enum { SEED = 25, FILES = 15, ORDERED_FILES = 2, WHOLE = 7, ORDERED = 6, WIDTH = 150, MOST_BYTES = 1000, MOST_IMAGES = 40, MOST_CHANGES = 40 };
 
 typedef struct {
     size_t length;
@@ -31,7 +31,8 @@ static const damage WHOLE_ONE = {1, 0, 0, {0}, {0}};
 static FILE *file;
 static piece table, images[MOST_IMAGES];
 static size_t image_count;
-static uint64_t rows, rows_here, broken, cases, bound_decides, given[18];
+static uint32_t order; /* of the forest, in the rows that are made now */
+static uint64_t rows, rows_here, broken, cases, bound_decides, order_decides, given[19];
 
 /* A field's text grows here until it is set in lines. */
 static char text[1 << 18], case_text[1 << 18];
@@ -163,8 +164,8 @@ static void built_image(reference_built r, const piece *room) {
 
 static void compacts(uint32_t bound, size_t room_length) {
     piece room = room_of(room_length);
-    CASE("compacts %u ", bound);
-    built_image(reference_compact(table.bytes, table.length, bound, room.bytes, room.length), &room);
+    CASE("compacts %u %u ", order, bound);
+    built_image(reference_compact(table.bytes, table.length, order, bound, room.bytes, room.length), &room);
 }
 
 static void writes(const uint8_t *list, size_t length, size_t room_length) {
@@ -372,13 +373,22 @@ static void begin_row(void) {
     rows++;
 }
 
+/* Whether compact in an order gives another image than in order 0. */
+static int decides(uint32_t in_order, uint32_t bound) {
+    piece by_order, by_pairs;
+    by_order.length = reference_compact(table.bytes, table.length, in_order, bound, by_order.bytes, MOST_BYTES).length;
+    by_pairs.length = reference_compact(table.bytes, table.length, 0, bound, by_pairs.bytes, MOST_BYTES).length;
+    return by_order.length != by_pairs.length || memcmp(by_order.bytes, by_pairs.bytes, by_order.length);
+}
+
 /* Compact with a room of the length that it takes or a longer one, or with a shorter one. */
 static void some_compact(uint32_t bound, int short_room) {
     piece trial, free_one;
-    size_t length = reference_compact(table.bytes, table.length, 65535, free_one.bytes, MOST_BYTES).length;
+    size_t length = reference_compact(table.bytes, table.length, order, 65535, free_one.bytes, MOST_BYTES).length;
     free_one.length = length;
-    length = reference_compact(table.bytes, table.length, bound, trial.bytes, MOST_BYTES).length;
+    length = reference_compact(table.bytes, table.length, order, bound, trial.bytes, MOST_BYTES).length;
     bound_decides += bound > 0 && (length != free_one.length || memcmp(trial.bytes, free_one.bytes, length));
+    order_decides += order > 0 && decides(order, bound);
     compacts(bound, short_room ? length - 1 - (below(2) ? 0 : below((uint32_t)length)) : length + (below(2) ? 0 : below(9)));
 }
 
@@ -477,6 +487,35 @@ static void broken_row(void) {
     print_row(&plain, &d, judged);
 }
 
+/* A row of the orders 1 and 2, on a table on which one of them decides, and of an order that is none. */
+static void ordered_row(uint32_t n, uint32_t deciding) {
+    begin_row();
+    uint32_t bound = 2 + below(3);
+    do make_some_table(n, 2 + below(3));
+    while (!decides(deciding, bound));
+    for (order = 1; order <= 2; order++) some_compact(bound, 0);
+    uint32_t above = below(70000);
+    order = below(2) ? 3 : 3 + above;
+    compacts(bound, below(2) ? 400 : 0);
+    order = 0;
+    print_row(&table, &WHOLE_ONE, 0);
+}
+
+/* An order that is none, of a table that is refused: 18 comes first. */
+static void broken_ordered_row(void) {
+    begin_row();
+    broken++;
+    make_some_table(2, 2);
+    piece plain = table;
+    damage d = table_damage();
+    table = damaged(&plain, &d);
+    uint32_t judged = reference_judge_table(table.bytes, table.length);
+    given[judged]++;
+    for (order = 1; order <= 3; order++) compacts(2, 400);
+    order = 0;
+    print_row(&plain, &d, judged);
+}
+
 static void begin_file(const char *folder, int number) {
     char name[400];
     snprintf(name, sizeof name, "%s/Sample%d.antt", folder, number);
@@ -509,9 +548,18 @@ int main(int words, char **word) {
         fprintf(file, "    ∷ []\n");
         if (fclose(file)) fail("a file could not be written", (uint64_t)f);
     }
-    printf("rows: %llu tables, %llu of them damaged, %llu cases; a bound above 0 decides in %llu\n  given  ", (unsigned long long)rows,
-           (unsigned long long)broken, (unsigned long long)cases, (unsigned long long)bound_decides);
-    for (int r = 0; r < 18; r++)
+    /* The orders 1 and 2, of up to 8 states: the prover takes long for them. */
+    static const uint32_t ordered[ORDERED] = {4, 5, 5, 6, 6, 7};
+    for (int f = FILES + 1; f <= FILES + ORDERED_FILES; f++) {
+        begin_file(word[1], f);
+        for (uint32_t i = 0; i < ORDERED; i++) ordered_row(ordered[i] + below(2) * (i == ORDERED - 1), 1 + i % 2);
+        broken_ordered_row();
+        fprintf(file, "    ∷ []\n");
+        if (fclose(file)) fail("a file could not be written", (uint64_t)f);
+    }
+    printf("rows: %llu tables, %llu of them damaged, %llu cases; a bound above 0 decides in %llu, an order above 0 in %llu\n  given  ", (unsigned long long)rows,
+           (unsigned long long)broken, (unsigned long long)cases, (unsigned long long)bound_decides, (unsigned long long)order_decides);
+    for (int r = 0; r < 19; r++)
         if (given[r]) printf(" %d:%llu", r, (unsigned long long)given[r]);
     printf("\n");
     return 0;

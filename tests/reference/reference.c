@@ -3,7 +3,7 @@
 #include <stdlib.h>
 #include <string.h>
 
-enum { NONE = 65535, MOST_STATES = 512, MOST_CLASSES = 256 };
+enum { NONE = 65535, MOST_STATES = 512, MOST_CLASSES = 256, MOST_PAIRS = MOST_STATES * (MOST_STATES - 1) / 2 };
 
 static uint32_t read16(const uint8_t *b, size_t at) { return b[at] | (uint32_t)b[at + 1] << 8; }
 static uint32_t read32(const uint8_t *b, size_t at) { return read16(b, at) | read16(b, at + 2) << 16; }
@@ -238,82 +238,172 @@ reference_built reference_write(const uint8_t *t, size_t length, const uint8_t *
     return fill(result, result_length, room, room_length);
 }
 
-/* The forest: distances by a search over the pairs added, anew at each question. */
+/* The forest: the pairs added, as each state's neighbours. Distances are found by a search over them, anew at each question. */
 typedef struct {
-    uint32_t n;
-    uint8_t joined[MOST_STATES][MOST_STATES];
+    uint32_t n, added, degree[MOST_STATES];
+    uint16_t neighbour[MOST_STATES][MOST_STATES];
 } forest;
 
-/* The distances from s over the pairs added; -1 for another tree. Answers the largest. */
-static int distances(const forest *f, uint32_t s, int *distance) {
-    uint32_t queue[MOST_STATES], head = 0, tail = 0;
-    for (uint32_t x = 0; x < f->n; x++) distance[x] = -1;
+static void add(forest *f, uint32_t u, uint32_t v) {
+    f->neighbour[u][f->degree[u]++] = (uint16_t)v;
+    f->neighbour[v][f->degree[v]++] = (uint16_t)u;
+    f->added++;
+}
+
+/* Takes the pair that was added last away again. */
+static void take_back(forest *f, uint32_t u, uint32_t v) {
+    f->degree[u]--;
+    f->degree[v]--;
+    f->added--;
+}
+
+/* The distances from s over the pairs added; -1 for another tree. Answers a state that is farthest. */
+static uint32_t distances(const forest *f, uint32_t s, int *distance) {
+    uint32_t queue[MOST_STATES], head = 0, tail = 0, x = s;
+    for (uint32_t y = 0; y < f->n; y++) distance[y] = -1;
     distance[s] = 0;
     queue[tail++] = s;
-    int far = 0;
     while (head < tail) {
-        uint32_t x = queue[head++];
-        far = distance[x];
-        for (uint32_t y = 0; y < f->n; y++)
-            if (f->joined[x][y] && distance[y] < 0) {
+        x = queue[head++];
+        for (uint32_t i = 0; i < f->degree[x]; i++) {
+            uint32_t y = f->neighbour[x][i];
+            if (distance[y] < 0) {
                 distance[y] = distance[x] + 1;
                 queue[tail++] = y;
             }
-    }
-    return far;
-}
-
-/* The longest path of the tree of s. */
-static int longest(const forest *f, uint32_t s) {
-    int distance[MOST_STATES], other[MOST_STATES], most = 0;
-    distances(f, s, distance);
-    for (uint32_t x = 0; x < f->n; x++)
-        if (distance[x] >= 0) {
-            int far = distances(f, x, other);
-            if (far > most) most = far;
         }
-    return most;
+    }
+    return x;
 }
 
-reference_built reference_compact(const uint8_t *t, size_t length, uint32_t bound, uint8_t *room, size_t room_length) {
+/* d: the largest distance from s to a state of its tree. */
+static int farthest(const forest *f, uint32_t s) {
+    int distance[MOST_STATES];
+    uint32_t last = distances(f, s, distance);
+    return distance[last];
+}
+
+/* The longest path of the tree of s: it begins at a state that is farthest from any. */
+static int longest(const forest *f, uint32_t s) {
+    int distance[MOST_STATES];
+    return farthest(f, distances(f, s, distance));
+}
+
+/* The pairs of one weight that are left, by first state and then by second, and the number by which each is ordered before that. */
+typedef struct {
+    size_t count;
+    uint16_t u[MOST_PAIRS], v[MOST_PAIRS], key[MOST_PAIRS];
+    uint8_t gone[MOST_PAIRS];
+} pairs;
+
+/* The keys of the moment. Order 0: none, so they stay 0. Order 1, BGS: d(u) + d(v) + 1, the longest path over the pair. Order 2, REF: how much longer that is than the longest path of
+ * either tree, and 0 where it is no longer. */
+static void find_keys(const forest *f, uint32_t order, pairs *p) {
+    int far[MOST_STATES], path[MOST_STATES];
+    if (order == 0) return;
+    for (uint32_t x = 0; x < f->n; x++) {
+        far[x] = farthest(f, x);
+        path[x] = longest(f, x);
+    }
+    for (size_t i = 0; i < p->count; i++) {
+        uint32_t u = p->u[i], v = p->v[i];
+        int across = far[u] + far[v] + 1, growth = across - (path[u] > path[v] ? path[u] : path[v]);
+        p->key[i] = (uint16_t)(order == 1 ? across : growth > 0 ? growth : 0);
+    }
+}
+
+/* The places of the pairs by their keys, and by states where keys are equal. */
+static void by_keys(const pairs *p, uint32_t *place) {
+    size_t begin[2 * MOST_STATES + 1] = {0};
+    for (size_t i = 0; i < p->count; i++) begin[p->key[i] + 1]++;
+    for (size_t key = 0; key < 2 * MOST_STATES; key++) begin[key + 1] += begin[key];
+    for (size_t i = 0; i < p->count; i++) place[begin[p->key[i]]++] = (uint32_t)i;
+}
+
+/* Takes the pairs, each time the first of those that are left, and adds it if it joins two trees to one whose longest path is at most the bound. Between two additions
+ * no key changes, so keys are found anew only after one. With n - 1 pairs added no more can be. */
+static void take_pairs(forest *f, uint32_t order, uint32_t bound, pairs *p, uint32_t *place) {
+    while (p->count > 0 && f->added + 1 < f->n) {
+        find_keys(f, order, p);
+        by_keys(p, place);
+        int added = 0;
+        for (size_t i = 0; i < p->count && !added; i++) {
+            int distance[MOST_STATES];
+            uint32_t u = p->u[place[i]], v = p->v[place[i]];
+            p->gone[place[i]] = 1;
+            distances(f, u, distance);
+            if (distance[v] >= 0) continue;
+            add(f, u, v);
+            added = (uint32_t)longest(f, u) <= bound;
+            if (!added) take_back(f, u, v);
+        }
+        size_t left = 0;
+        for (size_t i = 0; i < p->count; i++) {
+            if (p->gone[i]) continue;
+            p->u[left] = p->u[i];
+            p->v[left++] = p->v[i];
+        }
+        memset(p->gone, 0, p->count);
+        p->count = left;
+    }
+}
+
+/* The root of the tree of x: of the states with the smallest d the one with the smallest number. */
+static uint32_t root_of(const forest *f, uint32_t x) {
+    int distance[MOST_STATES], least = -1;
+    uint32_t root = x;
+    distances(f, x, distance);
+    for (uint32_t y = 0; y < f->n; y++)
+        if (distance[y] >= 0) {
+            int far = farthest(f, y);
+            if (least < 0 || far < least) {
+                least = far;
+                root = y;
+            }
+        }
+    return root;
+}
+
+reference_built reference_compact(const uint8_t *t, size_t length, uint32_t order, uint32_t bound, uint8_t *room, size_t room_length) {
+    if (order > 2) return refuse(18);
     uint32_t refused = reference_judge_table(t, length);
     if (refused) return refuse(refused);
     numbers *a = table_numbers(t);
     forest *f = calloc(1, sizeof *f);
     f->n = a->n;
-    int distance[MOST_STATES], other[MOST_STATES];
-    for (int w = (int)a->k - 1; w >= 1; w--)
+    uint8_t(*weight)[MOST_STATES] = calloc(MOST_STATES, sizeof *weight);
+    for (uint32_t u = 0; u < a->n; u++)
+        for (uint32_t v = u + 1; v < a->n; v++) {
+            int same = 0;
+            for (uint32_t c = 0; c < a->k; c++) same += a->next[u][c] == a->next[v][c];
+            weight[u][v] = (uint8_t)(same > 0 ? same - 1 : 0);
+        }
+    pairs *p = calloc(1, sizeof *p);
+    uint32_t *place = malloc(MOST_PAIRS * sizeof *place);
+    for (uint32_t w = a->k - 1; w >= 1; w--) {
+        p->count = 0;
         for (uint32_t u = 0; u < a->n; u++)
-            for (uint32_t v = u + 1; v < a->n; v++) {
-                int same = 0;
-                for (uint32_t c = 0; c < a->k; c++) same += a->next[u][c] == a->next[v][c];
-                if (same - 1 != w) continue;
-                distances(f, u, distance);
-                if (distance[v] >= 0) continue;
-                f->joined[u][v] = f->joined[v][u] = 1;
-                if ((uint32_t)longest(f, u) > bound) f->joined[u][v] = f->joined[v][u] = 0;
-            }
+            for (uint32_t v = u + 1; v < a->n; v++)
+                if (weight[u][v] == w) {
+                    p->u[p->count] = (uint16_t)u;
+                    p->v[p->count++] = (uint16_t)v;
+                }
+        take_pairs(f, order, bound, p, place);
+    }
     uint32_t fallback[MOST_STATES];
     for (uint32_t x = 0; x < a->n; x++) {
-        uint32_t root = x;
-        int least = -1;
-        distances(f, x, distance);
-        for (uint32_t y = 0; y < a->n; y++)
-            if (distance[y] >= 0) {
-                int far = distances(f, y, other);
-                if (least < 0 || far < least) {
-                    least = far;
-                    root = y;
-                }
-            }
+        int distance[MOST_STATES];
+        distances(f, root_of(f, x), distance);
         fallback[x] = NONE;
-        distances(f, root, distance);
-        for (uint32_t y = 0; y < a->n; y++)
-            if (f->joined[x][y] && distance[y] == distance[x] - 1) fallback[x] = y;
+        for (uint32_t i = 0; i < f->degree[x]; i++)
+            if (distance[f->neighbour[x][i]] == distance[x] - 1) fallback[x] = f->neighbour[x][i];
     }
     size_t result_length;
     uint8_t *result = image_of(a, fallback, &result_length);
     uint32_t depth = read16(result, 6);
+    free(place);
+    free(p);
+    free(weight);
     free(a);
     free(f);
     if (depth > bound / 2 + bound % 2) {

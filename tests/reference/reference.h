@@ -1,4 +1,4 @@
-/* An independent reading of document 01, plain and slow: what the proved operations are compared with. It shares no code with them. */
+/* An independent reading of the definition paper and the requests, plain and slow: what the proved operations are compared with. It shares no code with them. */
 #ifndef REFERENCE_H
 #define REFERENCE_H
 
@@ -15,7 +15,7 @@ typedef struct {
 
 uint32_t reference_judge_table(const uint8_t *table, size_t length);
 uint32_t reference_judge_image(const uint8_t *image, size_t length);
-reference_built reference_compact(const uint8_t *table, size_t length, uint32_t bound, uint8_t *room, size_t room_length);
+reference_built reference_compact(const uint8_t *table, size_t length, uint32_t order, uint32_t bound, uint8_t *room, size_t room_length);
 reference_built reference_write(const uint8_t *table, size_t length, const uint8_t *defaults, size_t defaults_length, uint8_t *room,
                                 size_t room_length);
 reference_built reference_expand(const uint8_t *image, size_t length, uint8_t *room, size_t room_length);

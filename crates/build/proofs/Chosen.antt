@@ -28,54 +28,59 @@ use Rattle.build.specs.Measured.{listImage, Fills}
 use Rattle.build.proofs.Lists.{list-falls, list-image}
 use Rattle.build.proofs.Grounds.{refuses, table-refused, table-passed, fills-same}
 
-module _ (t : List ℕ) (D n : ℕ) (def : List ℕ) (N : n ≡ states t) (C : Chosen t n D def) where
+module _ (t : List ℕ) (order D n : ℕ) (def : List ℕ) (N : n ≡ states t) (C : Chosen t n order D def) where
   -- The view with the forest's defaults.
   abbrev v : View
-  v = tableView t (defaults t D)
+  v = tableView t (defaults t order D)
 
   -- The defaults are in range.
   pub chosen-range : InRange n def
   chosen-range s h e = ⊎-elim (λ q. absurd (e q)) (λ q. q) (C .states-are s h)
 
   falls : Falls v n def
-  falls = list-falls t (defaults t D) n def N (λ s h. sym (C .defaults-are s h))
+  falls = list-falls t (defaults t order D) n def N (λ s h. sym (C .defaults-are s h))
 
   -- No chain of them is endless.
   pub chosen-ends : any n (endless (defaultsView n def)) ≡ false
   chosen-ends =
       sym (endless-agrees falls chosen-range)
-      ∙ any-none (states t) (endless v) (λ s h. let (_, e, _) = defaults-chain t D v (λ x k. refl) s h in ap (λ (o : Option ℕ). not (given o)) e)
+      ∙ any-none (states t) (endless v) (λ s h. let (_, e, _) = defaults-chain t order D v (λ x k. refl) s h in ap (λ (o : Option ℕ). not (given o)) e)
 
   -- Their depth is that of the forest.
   chosen-depth : (depth : ℕ) → depth ≡ depthOf (defaultsView n def) → depth ≡ depthOf v
   chosen-depth depth e = e ∙ sym (depth-agrees falls chosen-range)
 
-module _ (t : List ℕ) (D : ℕ) (room : List ℕ) (number l : ℕ) where
+module _ (t : List ℕ) (order D : ℕ) (room : List ℕ) (number l : ℕ) where
   -- The grounds after the table's.
   abbrev rest : List Ground
-  rest = (17, ltb ((D + 1) / 2) (depthOf (tableView t (defaults t D)))) ∷ (16, ltb (length room) (length (compacted t D))) ∷ []
+  rest = (17, ltb ((D + 1) / 2) (depthOf (tableView t (defaults t order D)))) ∷ (16, ltb (length room) (length (compacted t order D))) ∷ []
+
+  -- Ground 18.
+  pub compact-unknown : 2 < order → number ≡ 18 → l ≡ 0 → Compacts t order D room number l room
+  unfolding compact compactGrounds
+  compact-unknown h e q = refuses (compactGrounds t order D (length room)) (compacted t order D) room number l (rw (lt-ltb 2 order h) e) (λ z. omega arith) q
 
   -- A table that is refused.
-  pub compact-judged : number ≡ judgeTable t → ¬ (number ≡ 0) → l ≡ 0 → Compacts t D room number l room
+  pub compact-judged : order ≤ 2 → number ≡ judgeTable t → ¬ (number ≡ 0) → l ≡ 0 → Compacts t order D room number l room
   unfolding compact compactGrounds
-  compact-judged e n q = refuses (compactGrounds t D (length room)) (compacted t D) room number l (table-refused t rest number e n) n q
+  compact-judged h e n q = refuses (compactGrounds t order D (length room)) (compacted t order D) room number l (rw (le-ltb 2 order h) (table-refused t rest number e n)) n q
 
-  module _ (e : judgeTable t ≡ 0) (n : ℕ) (def : List ℕ) (N : n ≡ states t) (C : Chosen t n D def) (depth : ℕ) (deep : depth ≡ depthOf (defaultsView n def)) where
-    left : Decided (first (compactGrounds t D (length room))) rest
+  module _ (known : order ≤ 2) (e : judgeTable t ≡ 0) (n : ℕ) (def : List ℕ) (N : n ≡ states t) (C : Chosen t n order D def) (depth : ℕ) (deep : depth ≡ depthOf (defaultsView n def)) where
+    left : Decided (first (compactGrounds t order D (length room))) rest
     unfolding compactGrounds
-    left = table-passed t rest e
+    left = record { decided = rw (le-ltb 2 order known) (table-passed t rest e .decided) }
 
     -- Ground 17.
-    pub compact-deep : D / 2 + D % 2 < depth → number ≡ 17 → l ≡ 0 → Compacts t D room number l room
+    pub compact-deep : D / 2 + D % 2 < depth → number ≡ 17 → l ≡ 0 → Compacts t order D room number l room
     unfolding compact
     compact-deep less h q =
-        refuses (compactGrounds t D (length room)) (compacted t D) room number l
-        (h ∙ applies left (lt-ltb ((D + 1) / 2) (depthOf (tableView t (defaults t D))) (omega (arith, chosen-depth t D n def N C depth deep)))) (λ z. omega arith) q
+        refuses (compactGrounds t order D (length room)) (compacted t order D) room number l
+        (h ∙ applies left (lt-ltb ((D + 1) / 2) (depthOf (tableView t (defaults t order D))) (omega (arith, chosen-depth t order D n def N C depth deep)))) (λ z. omega arith) q
 
     -- Ground 16, or the image.
-    pub compact-fills : (after : List ℕ) → depth ≤ D / 2 + D % 2 → Fills (listImage t def) room number l after → Compacts t D room number l after
+    pub compact-fills : (after : List ℕ) → depth ≤ D / 2 + D % 2 → Fills (listImage t def) room number l after → Compacts t order D room number l after
     unfolding compact compacted
     compact-fills after most F =
-        fills-same (listImage t def) (compacted t D) room after number l (first (compactGrounds t D (length room))) F
-        (list-image t (defaults t D) n def N (chosen-range t D n def N C) (λ s h. sym (C .defaults-are s h)))
-        (passed left (le-ltb ((D + 1) / 2) (depthOf (tableView t (defaults t D))) (omega (arith, chosen-depth t D n def N C depth deep))))
+        fills-same (listImage t def) (compacted t order D) room after number l (first (compactGrounds t order D (length room))) F
+        (list-image t (defaults t order D) n def N (chosen-range t order D n def N C) (λ s h. sym (C .defaults-are s h)))
+        (passed left (le-ltb ((D + 1) / 2) (depthOf (tableView t (defaults t order D))) (omega (arith, chosen-depth t order D n def N C depth deep))))

@@ -58,22 +58,26 @@ pub fn write(table: &[u8], defaults: &[u8], room: &mut [u8]) -> Built
     image_into(table, n, k, &def, &order, o.depth, room)
 }
 
-// Compact: table and path bound into an image.
-pub fn compact(table: &[u8], bound: u16, room: &mut [u8]) -> Built
-    ensures { λ r. ⌜ Compacts (now (table .entry)) bound (now (room .entry)) (r .refused) (r .length) (now (room .exit)) ⌝ }
+// Compact: table, order and path bound into an image.
+pub fn compact(table: &[u8], order: u32, bound: u16, room: &mut [u8]) -> Built
+    ensures { λ r. ⌜ Compacts (now (table .entry)) order bound (now (room .entry)) (r .refused) (r .length) (now (room .exit)) ⌝ }
 {
+    // 18: there is no such order.
+    if 2 < order {
+        return answers::not_built(18);
+    }
     let judged = table::judge_table(table);
     if judged != 0 {
         return answers::not_built(judged);
     }
     let n = words::get16(table, 0) as usize;
     let k = words::get16(table, 2) as usize;
-    let def = forest::defaults_of(table, n, k, bound);
+    let def = forest::defaults_of(table, n, k, order as u8, bound);
     let o = chains::order_of(&def, n);
     // 17: the depth built exceeds the bound halved and rounded up.
     if bound / 2 + bound % 2 < o.depth {
         return answers::not_built(17);
     }
-    let order = o.order;
-    image_into(table, n, k, &def, &order, o.depth, room)
+    let sorted = o.order;
+    image_into(table, n, k, &def, &sorted, o.depth, room)
 }

@@ -21,7 +21,7 @@ fn try_write(table: &[u8]) {
 // The number that a scan of the table's image, D 2, answers first.
 fn scanned(table: &[u8], state: u32, payload: &[u8]) -> u32 {
     let mut room = io::buffer();
-    let built = kamordast::compact(table, 2, &mut room);
+    let built = kamordast::compact(table, 0, 2, &mut room);
     if built.refused != 0 {
         return built.refused;
     }

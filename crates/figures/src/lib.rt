@@ -1,4 +1,4 @@
-// The figures of a table compacted with a path bound, read out of the image itself.
+// The figures of a table compacted in order 0 with a path bound, read out of the image itself.
 ghost use mathlib.Core.Path.{_≡_};
 ghost use Rattle.paper.specs.Below.{bit, given};
 ghost use Rattle.paper.specs.Image.{states, depth, worst, entries};
@@ -60,11 +60,11 @@ fn figures_in(image: &[u8], bytes: u32) -> Figures
     }
 }
 
-// The figures of a table compacted with a path bound into the room.
+// The figures of a table compacted in order 0 with a path bound into the room.
 pub fn figures_of(table: &[u8], bound: u16, room: &mut [u8]) -> Figures
-    ensures { λ r. ⌜ Shows (compact (now (table .entry)) bound (now (room .entry))) (r .refused) (r .depth) (r .worst) (r .stored) (r .defaults) (r .bytes) ⌝ }
+    ensures { λ r. ⌜ Shows (compact (now (table .entry)) 0 bound (now (room .entry))) (r .refused) (r .depth) (r .worst) (r .stored) (r .defaults) (r .bytes) ⌝ }
 {
-    let built = kamordast::compact(table, bound, room);
+    let built = kamordast::compact(table, 0, bound, room);
     if built.refused != 0 {
         return Figures {
             refused: built.refused,

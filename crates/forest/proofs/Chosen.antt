@@ -59,17 +59,17 @@ module _ (n : ℕ) (few : n ≤ 512) (F : Trees) (M : Metric F) (I : Inside n F)
       ]
 
 -- Over the weights of an accepted table the pairs taken make its forest of single states, and settled and pointed it gives the defaults.
-pub chosen-defaults : (t : List ℕ) (n k D : ℕ) → AcceptedTable t → n ≡ states t → k ≡ classes t
+pub chosen-defaults : (t : List ℕ) (n k order D : ℕ) → AcceptedTable t → n ≡ states t → k ≡ classes t
     → (weights far₀ parent₀ tree₀ far parent tree settled chosen : List ℕ) → Weighed t n weights (n * 512)
-    → Single far₀ parent₀ tree₀ → Becomes n D (falling n (rest n) D (weightIn weights) (k - 1)) far₀ parent₀ tree₀ far parent tree
-    → Settles n far parent tree settled n → Replaced (λ x. x) 65535 settled chosen n → Chosen t n D chosen
+    → Single far₀ parent₀ tree₀ → Becomes n D (falling n (rest order n) D (weightIn weights) (k - 1)) far₀ parent₀ tree₀ far parent tree
+    → Settles n far parent tree settled n → Replaced (λ x. x) 65535 settled chosen n → Chosen t n order D chosen
 unfolding forest defaults
-chosen-defaults t n k D A en ek weights far₀ parent₀ tree₀ far parent tree settled chosen W S B T P =
+chosen-defaults t n k order D A en ek weights far₀ parent₀ tree₀ far parent tree settled chosen W S B T P =
     let few : n ≤ 512 = omega (arith, A .few-states) in
-    let all : falling n (rest n) D (weightIn weights) (k - 1) singles ≡ forest t D =
-    falling-same n (weightIn weights) (weight t) (λ u v uv vb. W u v uv vb (omega arith)) (rest n) D (k - 1) singles ∙ rw (en, ek) in
-    let G : Good n D (forest t D) far parent tree = rw all at (B .good singles (S .good n D few)) in
-    let F = forest t D in
+    let all : falling n (rest order n) D (weightIn weights) (k - 1) singles ≡ forest t order D =
+    falling-same n (weightIn weights) (weight t) (λ u v uv vb. W u v uv vb (omega arith)) (rest order n) D (k - 1) singles ∙ rw (en, ek) in
+    let G : Good n D (forest t order D) far parent tree = rw all at (B .good singles (S .good n D few)) in
+    let F = forest t order D in
     let M = G .grown .metric in
     let I = G .grown .inside in
     let each = chosen-points n few F M I far settled tree chosen (T .settled F M I (G .held)) P in

@@ -125,13 +125,13 @@ fn pointers(parent: [u16; 512], n: usize) -> [u16; 512]
     chosen
 }
 
-// The defaults of an accepted table in the forest with this path bound: for each state its default, or 65535 for none.
-pub fn defaults_of(t: &[u8], n: usize, k: usize, bound: u16) -> [u16; 512]
+// The defaults of an accepted table in the forest in this order with this path bound: for each state its default, or 65535 for none.
+pub fn defaults_of(t: &[u8], n: usize, k: usize, order: u8, bound: u16) -> [u16; 512]
     requires { ⌜ AcceptedTable (now t) × (n ≡ states (now t)) × (k ≡ classes (now t)) ⌝ }
-    ensures { λ r. ⌜ Chosen (now (t .entry)) n bound r ⌝ }
+    ensures { λ r. ⌜ Chosen (now (t .entry)) n order bound r ⌝ }
 {
     let mut weights = [0u8; 262144];
     weigh_all(t, n, k, &mut weights);
-    let f = greedy::take_all(single_states(), &weights, n, bound, (k - 1) as u8);
+    let f = greedy::take_all(single_states(), &weights, n, order, bound, (k - 1) as u8);
     pointers(settle(f, n), n)
 }

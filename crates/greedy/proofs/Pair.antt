@@ -8,13 +8,14 @@ use native.Mathlib.Omega.{arith}
 use native.Mathlib.Decide.{decLe}
 use lib.Dec.{leb, eqb}
 use lib.ListN.{getD}
-use borrow.Author.Tests.{lt-ltb, le-leb, lt-leb, leb-true, eqb-false, not-true}
+use borrow.Author.Tests.{lt-ltb, le-leb, lt-leb, leb-true, eq-eqb, ne-eqb, eqb-true, eqb-false, not-true}
 use Rattle.paper.specs.Below.{differ}
 use Rattle.paper.specs.Forest.{Trees, joined, d, joinedLongest, addedOrDropped}
 use Rattle.paper.proofs.Below.{and-true}
 use Rattle.paper.specs.Levels.{looked}
 use Rattle.trees.proofs.Longest.{joinedLongest-bound}
 use Rattle.trees.proofs.Grown.{added-grown}
+use Rattle.paper.specs.BestPair.{Viable}
 use Rattle.joining.specs.Held.{Joined}
 use Rattle.greedy.specs.Good.{Good, isTaken}
 
@@ -47,6 +48,21 @@ module _ (n D u v : ℕ) (uv : u < v) (vb : v < n) (F : Trees) (far parent tree 
       let e = same-bound (joinedLongest n F u v) (d n F u + d n F v + 1) D (joinedLongest-bound n D F u v (G .grown .short u) (G .grown .short v)) in
       rw (H .numbers u ub, H .numbers v vb, H .farthest u ub, H .farthest v vb, e)
 
+  -- The trees of a pair that can be added, joined, are held.
+  pub pair-joined : Viable n D F (u, v) → (far′ parent′ tree′ : List ℕ) → Joined n u v far parent tree far′ parent′ tree′
+      → Good n D (joined F u v) far′ parent′ tree′
+  pair-joined able far′ parent′ tree′ J =
+      record {
+        grown = added-grown n D (λ x y. 1) F u v (G .grown) (record {
+          rising = uv;
+          inside = vb;
+          heavy = omega arith;
+          apart = able .apart;
+          short = able .short;
+        });
+        held = J .holds F (G .grown .metric) (G .grown .inside) (able .apart) (G .held);
+      }
+
   module _ (weight : ℕ → ℕ → ℕ) (w : ℕ) where
     -- The test as it stands of a pair in its turn.
     abbrev pub Test : Bool → Type 0
@@ -64,21 +80,24 @@ module _ (n D u v : ℕ) (uv : u < v) (vb : v < n) (F : Trees) (far parent tree 
     pub pair-dropped : Test false → Good n D (looked n D weight w F u v) far parent tree
     pair-dropped e = rw (looked-test false e) G
 
+    -- A pair for which it passes is one of different trees, and the joined tree keeps to D.
+    pub test-viable : Test true → (weight u v ≡ w) × Viable n D F (u, v)
+    test-viable e =
+        let (same, test) = and-true (eqb (weight u v) w) _ (sym e) in
+        let (apart, short) = and-true (differ (F .tree u) (F .tree v)) (leb (joinedLongest n F u v) D) (test-held ∙ test) in
+        (eqb-true (weight u v) w same, record { apart = eqb-false (F .tree u) (F .tree v) (not-true _ apart); short = leb-true _ _ short })
+
+    -- For any such pair it passes.
+    pub viable-test : weight u v ≡ w → Viable n D F (u, v) → isTaken (weight u v) w (getD tree u 0) (getD tree v 0) (getD far u 0) (getD far v 0) D ≡ true
+    viable-test e able =
+        rw (
+          eq-eqb (weight u v) w e,
+          ← test-held,
+          ne-eqb (F .tree u) (F .tree v) (able .apart),
+          le-leb (joinedLongest n F u v) D (able .short),
+        )
+
     -- Where it passes they are joined.
     pub pair-added : Test true → (far′ parent′ tree′ : List ℕ) → Joined n u v far parent tree far′ parent′ tree′
         → Good n D (looked n D weight w F u v) far′ parent′ tree′
-    pair-added e far′ parent′ tree′ J =
-        let (same, test) = and-true (eqb (weight u v) w) _ (sym e) in
-        let (apart, short) = and-true (differ (F .tree u) (F .tree v)) (leb (joinedLongest n F u v) D) (test-held ∙ test) in
-        let other = eqb-false (F .tree u) (F .tree v) (not-true _ apart) in
-        rw (looked-test true e)
-        (record {
-          grown = added-grown n D (λ x y. 1) F u v (G .grown) (record {
-            rising = uv;
-            inside = vb;
-            heavy = omega arith;
-            apart = other;
-            short = leb-true _ _ short;
-          });
-          held = J .holds F (G .grown .metric) (G .grown .inside) other (G .held);
-        })
+    pair-added e far′ parent′ tree′ J = rw (looked-test true e) (pair-joined (test-viable e .1) far′ parent′ tree′ J)

@@ -1,23 +1,41 @@
 -- The pairs of one weight taken row by row: what the arrays become.
-use mathlib.Core.Path.{_≡_, refl}
-use mathlib.Core.Bool.{Bool, true, false}
+use mathlib.Core.Path.{_≡_, refl, _∙_}
+use mathlib.Core.Bool.{Bool, true, false, cond}
 use mathlib.Core.List.{List}
 use Prim.Native.Nat.{ℕ, zero, suc, _+_, _≤_, _<_}
 use native.Mathlib.Numerals.{add-one}
+use native.Mathlib.Decide.{ℕ-discrete}
 use native.Mathlib.Omega.{arith}
+use lib.Dec.{ltb}
 use lib.ListN.{getD}
-use borrow.Author.Tests.{le-ltb}
-use Rattle.paper.specs.Forest.{Trees}
+use borrow.Author.Tests.{le-ltb, ne-eqb}
+use Rattle.paper.specs.Forest.{Trees, rest}
 use Rattle.paper.specs.Levels.{row, rows}
+use Rattle.paper.proofs.Levels.{level}
+use Rattle.trees.proofs.Best.{levelOf}
 use Rattle.joining.specs.Held.{Joined, Whole}
 use Rattle.greedy.specs.Good.{Becomes, isTaken}
 use Rattle.greedy.proofs.Becomes.{becomes-same, becomes-then}
+use Rattle.greedy.proofs.Weights.{Passed}
 use Rattle.greedy.proofs.Pair.{pair-dropped, pair-added}
 
 -- A row begins after its first state.
 row-skips : (n D : ℕ) (weight : ℕ → ℕ → ℕ) (w u : ℕ) (F : Trees) (j : ℕ) → j ≤ u + 1 → row n D weight w u F j ≡ F
 row-skips n D weight w u F zero l = refl
 row-skips n D weight w u F (suc j) l = rw (le-ltb u j (omega arith)) (row-skips n D weight w u F j (omega arith))
+
+-- Pairs of another weight make no difference.
+row-passes : (n D : ℕ) (weight : ℕ → ℕ → ℕ) (w u : ℕ) (F : Trees) (v v′ : ℕ) → v ≤ v′ → Passed (weight u) v w v′ → row n D weight w u F v′ ≡ row n D weight w u F v
+row-passes n D weight w u F v zero l P = let e : v ≡ 0 = omega arith in rw e
+row-passes n D weight w u F v (suc j) l P =
+    elim (ℕ-discrete v (suc j)) [
+      | yes e ↦ rw e
+      | no e ↦ rw (ne-eqb (weight u j) w (P j (omega arith) (omega arith))) (either (ltb u j) (row n D weight w u F j) ∙ row-passes n D weight w u F v j (omega arith) (λ i h k. P i h (omega arith)))
+    ]
+  where
+    either : (b : Bool) (G : Trees) → cond b G G ≡ G
+    either true G = refl
+    either false G = refl
 
 module _ (n D : ℕ) (weight : ℕ → ℕ → ℕ) (w : ℕ) (far parent tree : List ℕ) (whole : Whole far parent tree) where
   -- With no row taken the trees are as they were.
@@ -49,6 +67,11 @@ module _ (n D : ℕ) (weight : ℕ → ℕ → ℕ) (w u : ℕ) (far₀ parent�
               (pair-added n D u v uv vb (row n D weight w u F v) far parent tree (B .good F G) weight w (rw e at test) far′ parent′ tree′ J);
         }
 
+  -- Pairs of another weight are passed over.
+  pub row-passed : (v v′ : ℕ) → v ≤ v′ → Passed (weight u) v w v′ → Becomes n D (λ F. row n D weight w u F v) far₀ parent₀ tree₀ far parent tree
+      → Becomes n D (λ F. row n D weight w u F v′) far₀ parent₀ tree₀ far parent tree
+  row-passed v v′ l P B = record { whole = B .whole; good = λ F G. rw (row-passes n D weight w u F v v′ l P) (B .good F G) }
+
   -- After all pairs of a row one row more is taken.
   pub rows-more : (far′ parent′ tree′ : List ℕ) → Becomes n D (λ F. rows n D weight w F u) far₀ parent₀ tree₀ far parent tree
       → Becomes n D (λ F. row n D weight w u F n) far parent tree far′ parent′ tree′
@@ -56,3 +79,9 @@ module _ (n D : ℕ) (weight : ℕ → ℕ → ℕ) (w u : ℕ) (far₀ parent�
   rows-more far′ parent′ tree′ A B =
       rw (add-one u)
       (becomes-then n D (λ F. rows n D weight w F u) (λ F. row n D weight w u F n) far₀ parent₀ tree₀ far parent tree far′ parent′ tree′ A B)
+
+-- All rows are what the pairs of the weight make in order 0.
+pub rows-end : (n D : ℕ) (weight : ℕ → ℕ → ℕ) (w : ℕ) (far₀ parent₀ tree₀ far parent tree : List ℕ)
+    → Becomes n D (λ F. rows n D weight w F n) far₀ parent₀ tree₀ far parent tree → Becomes n D (levelOf n (rest 0 n) D weight w) far₀ parent₀ tree₀ far parent tree
+rows-end n D weight w far₀ parent₀ tree₀ far parent tree B =
+    record { whole = B .whole; good = λ F G. rw (level n D weight w F) (B .good F G) }

@@ -1,1 +1,6 @@
 pub mod Good
+pub mod Keys
+pub mod Longs
+pub mod Picked
+pub mod Searched
+pub mod Weights

@@ -1,14 +1,15 @@
 // The pairs of states taken by falling weight, each added or dropped for good.
 ghost use mathlib.Core.Path.{_≡_};
-ghost use mathlib.Core.Bool.{false};
-ghost use Prim.Native.Nat.{_*_, _≤_};
+ghost use Prim.Native.Nat.{_*_, _≤_, _<_};
 ghost use lib.ListN.{getD};
 ghost use Rattle.paper.specs.Forest.{rest, falling};
-ghost use Rattle.paper.specs.Levels.{rows};
-ghost use Rattle.paper.proofs.Marks.{Seen};
+ghost use Rattle.trees.proofs.Best.{levelOf};
 ghost use Rattle.joining.specs.Rooted.{Low};
-ghost use Rattle.greedy.specs.Good.{Becomes, weightIn, isTaken, Absent};
+ghost use Rattle.greedy.specs.Good.{Becomes, weightIn, isTaken};
+ghost use Rattle.greedy.specs.Weights.{Next, Named};
 use joining::Forest;
+
+mod best;
 
 // Whether a pair of weight x is added among those of weight w: its ends lie in different trees, and the path over it is at most the bound.
 fn takes(x: u8, w: u8, tu: u16, tv: u16, du: u16, dv: u16, bound: u16) -> bool
@@ -23,14 +24,30 @@ fn takes(x: u8, w: u8, tu: u16, tv: u16, du: u16, dv: u16, bound: u16) -> bool
     du as u32 + dv as u32 + 1 <= bound as u32
 }
 
-// All pairs of weight w, by first state, then by second.
+// The first state from `from` on whose pair with u has weight w, n where there is none.
+fn next_of(weights: &[u8; 262144], n: usize, u: usize, from: usize, w: u8) -> usize
+    requires { ⌜ (n ≤ 512) × (u < 512) × (from ≤ n) ⌝ }
+    ensures { λ r. ⌜ Next n (weightIn (now (weights .entry)) u) from w r ⌝ }
+{
+    let mut v = from;
+    while v < n {
+        if weights[u * 512 + v] == w {
+            return v;
+        }
+        v += 1;
+    }
+    v
+}
+
+// All pairs of weight w in order 0: by first state, then by second.
 fn take_level(f0: Forest, weights: &[u8; 262144], n: usize, bound: u16, w: u8) -> Forest
     requires { ⌜ (n ≤ 512) × Low (f0 .parent) ⌝ }
-    ensures { λ r. ⌜ Becomes n bound (λ F. rows n bound (weightIn (now (weights .entry))) w F n) (f0 .d) (f0 .parent) (f0 .tree) (r .d) (r .parent) (r .tree) ⌝ }
+    ensures { λ r. ⌜ Becomes n bound (levelOf n (rest 0 n) bound (weightIn (now (weights .entry))) w) (f0 .d) (f0 .parent) (f0 .tree) (r .d) (r .parent) (r .tree) ⌝ }
 {
     let mut f = f0;
     for u in 0..n {
-        for v in u + 1..n {
+        let mut v = next_of(weights, n, u, u + 1, w);
+        while v < n {
             if takes(
                 weights[u * 512 + v],
                 w,
@@ -42,48 +59,82 @@ fn take_level(f0: Forest, weights: &[u8; 262144], n: usize, bound: u16, w: u8) -
             ) {
                 f = joining::join(f, n, u, v);
             }
+            v = next_of(weights, n, u, v + 1, w);
         }
     }
     f
 }
 
-// Which numbers stand among the weights of n first states.
-fn weights_seen(weights: &[u8; 262144], n: usize) -> [bool; 256]
-    requires { ⌜ n ≤ 512 ⌝ }
-    ensures { λ r. ⌜ Seen r (λ j. getD (now (weights .entry)) j 0) (n * 512) ⌝ }
+// All pairs of weight w in an order that goes by the distances of the moment: the best that can be added is joined, as long as there is one.
+fn take_best(f0: Forest, weights: &[u8; 262144], n: usize, order: u8, bound: u16, w: u8) -> Forest
+    requires { ⌜ (n ≤ 512) × Low (f0 .parent) ⌝ }
+    ensures { λ r. ⌜ Becomes n bound (levelOf n (rest order n) bound (weightIn (now (weights .entry))) w) (f0 .d) (f0 .parent) (f0 .tree) (r .d) (r .parent) (r .tree) ⌝ }
 {
-    let mut seen: [bool; 256] = [false; 256];
+    let mut f = f0;
+    let mut low = [0u32; 512];
+    for joins in 0..n {
+        let d = f.d;
+        let tree = f.tree;
+        let long = best::longest_paths(&d, &tree, n);
+        let s = best::best_pair(low, &d, &tree, &long, weights, n, order, bound, w);
+        let p = s.best;
+        if p.key == 65536 {
+            return f;
+        }
+        f = joining::join(f, n, p.u, p.v);
+        let floors = s.low;
+        low = best::relaxed(floors, n, order);
+    }
+    f
+}
+
+// Which numbers stand among the weights of n first states: each that does stands at its own place, and 0 at every other.
+fn weights_seen(weights: &[u8; 262144], n: usize) -> [u8; 256]
+    requires { ⌜ n ≤ 512 ⌝ }
+    ensures { λ r. ⌜ Named r (λ j. getD (now (weights .entry)) j 0) (n * 512) ⌝ }
+{
+    let mut seen = [0u8; 256];
     let mut j = 0;
     while j < n * 512 {
-        seen[words::wide(weights[j]) as usize] = true;
+        let w = weights[j];
+        seen[words::wide(w) as usize] = w;
         j += 1;
     }
     seen
 }
 
-// All pairs of weight w, where there may be some.
-fn take_seen(f: Forest, weights: &[u8; 262144], n: usize, bound: u16, w: u8, some: bool) -> Forest
-    requires { ⌜ (n ≤ 512) × Low (f .parent) × (some ≡ false → Absent n (weightIn (now weights)) w) ⌝ }
-    ensures { λ r. ⌜ Becomes n bound (λ F. rows n bound (weightIn (now (weights .entry))) w F n) (f .d) (f .parent) (f .tree) (r .d) (r .parent) (r .tree) ⌝ }
+// All pairs of weight w in an order.
+fn take_weight(f: Forest, weights: &[u8; 262144], n: usize, order: u8, bound: u16, w: u8) -> Forest
+    requires { ⌜ (n ≤ 512) × Low (f .parent) ⌝ }
+    ensures { λ r. ⌜ Becomes n bound (levelOf n (rest order n) bound (weightIn (now (weights .entry))) w) (f .d) (f .parent) (f .tree) (r .d) (r .parent) (r .tree) ⌝ }
 {
-    if some {
+    if order == 0 {
         return take_level(f, weights, n, bound, w);
     }
-    f
+    take_best(f, weights, n, order, bound, w)
 }
 
-// All pairs by falling weight, from `top` down to 1.
-pub fn take_all(f0: Forest, weights: &[u8; 262144], n: usize, bound: u16, top: u8) -> Forest
+// All pairs in an order by falling weight, from `top` down to 1; a weight that no pair has is passed over.
+pub fn take_all(
+    f0: Forest,
+    weights: &[u8; 262144],
+    n: usize,
+    order: u8,
+    bound: u16,
+    top: u8,
+) -> Forest
     requires { ⌜ (n ≤ 512) × Low (f0 .parent) ⌝ }
-    ensures { λ r. ⌜ Becomes n bound (falling n (rest n) bound (weightIn (now (weights .entry))) top) (f0 .d) (f0 .parent) (f0 .tree) (r .d) (r .parent) (r .tree) ⌝ }
+    ensures { λ r. ⌜ Becomes n bound (falling n (rest order n) bound (weightIn (now (weights .entry))) top) (f0 .d) (f0 .parent) (f0 .tree) (r .d) (r .parent) (r .tree) ⌝ }
 {
     let seen = weights_seen(weights, n);
     let mut f = f0;
-    let mut w = top;
-    while 0 < w {
-        let some = seen[words::wide(w) as usize];
-        f = take_seen(f, weights, n, bound, w, some);
-        w -= 1;
+    let mut at = words::wide(top) as usize;
+    while 0 < at {
+        let w = seen[at];
+        if w != 0 {
+            f = take_weight(f, weights, n, order, bound, w);
+        }
+        at -= 1;
     }
     f
 }

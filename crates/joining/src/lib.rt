@@ -54,7 +54,7 @@ fn steps_to(parent: &[u16; 512], x: usize, r: usize, most: u16) -> u16
 }
 
 // The larger of two numbers.
-fn larger(a: u16, b: u16) -> u16
+pub fn larger(a: u16, b: u16) -> u16
     ensures { λ r. ⌜ r ≡ max a b ⌝ }
 {
     if a < b { b } else { a }

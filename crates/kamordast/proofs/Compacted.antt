@@ -17,7 +17,7 @@ use Rattle.paper.specs.Image.{imageView}
 use Rattle.paper.specs.Results.{tableView, imageOf}
 use Rattle.paper.specs.Forest.{weight, weightsOf, forest, defaults}
 use Rattle.paper.specs.Sentences.{Ends}
-use Rattle.paper.specs.Operations.{judgeImage, result, building, compacted, compactGrounds, compact}
+use Rattle.paper.specs.Operations.{judgeImage, Built, result, building, compacted, compactGrounds, compact}
 use Rattle.paper.proofs.Chain.{chain-ends}
 use Rattle.paper.proofs.Counts.{count-same}
 use Rattle.trees.proofs.Defaults.{defaults-chain, defaults-depth}
@@ -26,66 +26,67 @@ use Rattle.trees.proofs.Bounds.{bound-zero, bound-free}
 use Rattle.trips.proofs.ImageOf.{reads, image-of-accepted, defaults-of-image}
 use Rattle.trips.proofs.ExpandsBack.{compact-leaves}
 
-module _ (t : List ℕ) (D : ℕ) (room : List ℕ) (B : Bytes t) (e : compact t D room .number ≡ 0) where
+module _ (t : List ℕ) (order D : ℕ) (room : List ℕ) (B : Bytes t) (e : compact t order D room .number ≡ 0) where
   -- The image that it leaves.
   abbrev left : List ℕ
-  left = result (compact t D room)
+  left = result (compact t order D room)
 
   -- It is accepted.
   pub compacted-accepted : judgeImage left ≡ 0
   compacted-accepted =
-      let (w, W) = compact-leaves t D room e in
-      ap judgeImage w ∙ image-of-accepted t (defaults t D) B W
+      let (w, W) = compact-leaves t order D room e in
+      ap judgeImage w ∙ image-of-accepted t (defaults t order D) B W
 
   -- Its defaults are the forest's.
-  pub compacted-defaults : (s : ℕ) → s < states t → image.default left s ≡ defaults t D s
+  pub compacted-defaults : (s : ℕ) → s < states t → image.default left s ≡ defaults t order D s
   compacted-defaults s h =
-      let (w, W) = compact-leaves t D room e in
-      ap (λ (b : List ℕ). image.default b s) w ∙ defaults-of-image t (defaults t D) B W s h
+      let (w, W) = compact-leaves t order D room e in
+      ap (λ (b : List ℕ). image.default b s) w ∙ defaults-of-image t (defaults t order D) B W s h
 
   -- Every chain of it ends after at most D halved and rounded up.
   pub compacted-chains : (s : ℕ) → s < states t → (l : ℕ) × Ends (imageView left) s l × (l ≤ (D + 1) / 2)
   compacted-chains s h =
-      let (l, q, short) = defaults-chain t D (imageView left) compacted-defaults s h in
+      let (l, q, short) = defaults-chain t order D (imageView left) compacted-defaults s h in
       (l, chain-ends (imageView left) (states t) s l q, short)
 
   -- So is the depth that it states.
   pub compacted-depth : image.depth left ≤ (D + 1) / 2
   compacted-depth =
-      let (w, W) = compact-leaves t D room e in
-      rw (w, reads t (defaults t D) B W .depth-is) (defaults-depth t D)
+      let (w, W) = compact-leaves t order D room e in
+      rw (w, reads t (defaults t order D) B W .depth-is) (defaults-depth t order D)
 
   -- It has the table's states.
   compacted-states : image.states left ≡ states t
   compacted-states =
-      let (w, W) = compact-leaves t D room e in
-      ap (λ (b : List ℕ). image.states b) w ∙ sym (reads t (defaults t D) B W .view-is .states-same)
+      let (w, W) = compact-leaves t order D room e in
+      ap (λ (b : List ℕ). image.states b) w ∙ sym (reads t (defaults t order D) B W .view-is .states-same)
 
   -- Its m, the defaults in its records and the weights of the pairs added make n times k.
-  pub compacted-entries : image.entries left + (howMany (image.states left) (λ s. given (image.default left s)) + weightsOf (weight t) (forest t D .added)) ≡ states t * classes t
+  pub compacted-entries : image.entries left + (howMany (image.states left) (λ s. given (image.default left s)) + weightsOf (weight t) (forest t order D .added)) ≡ states t * classes t
   compacted-entries =
-      let (w, W) = compact-leaves t D room e in
-      let m = ap (λ (b : List ℕ). image.entries b) w ∙ reads t (defaults t D) B W .entries-are in
+      let (w, W) = compact-leaves t order D room e in
+      let m = ap (λ (b : List ℕ). image.entries b) w ∙ reads t (defaults t order D) B W .entries-are in
       let named = ap (λ (n : ℕ). howMany n (λ s. given (image.default left s))) compacted-states
-      ∙ count-same (states t) (λ s. given (image.default left s)) (λ s. given (defaults t D s)) (λ s h. ap (λ (o : Option ℕ). given o) (compacted-defaults s h)) in
-      rw (m, named) (entries-sum t D)
+      ∙ count-same (states t) (λ s. given (image.default left s)) (λ s. given (defaults t order D s)) (λ s h. ap (λ (o : Option ℕ). given o) (compacted-defaults s h)) in
+      rw (m, named) (entries-sum t order D)
 
 -- D 0 gives no defaults.
-pub compacted-zero : (t room : List ℕ) → Bytes t → compact t 0 room .number ≡ 0 → (s : ℕ) → s < states t → image.default (result (compact t 0 room)) s ≡ none
-compacted-zero t room B e s h = compacted-defaults t 0 room B e s h ∙ bound-zero t s
+pub compacted-zero : (t : List ℕ) (order : ℕ) (room : List ℕ) → Bytes t → compact t order 0 room .number ≡ 0
+    → (s : ℕ) → s < states t → image.default (result (compact t order 0 room)) s ≡ none
+compacted-zero t order room B e s h = compacted-defaults t order 0 room B e s h ∙ bound-zero t order s
 
 -- Compact with the defaults of the forest as one argument: 17 never applies.
-compact-by : (t : List ℕ) (D : ℕ) (room : List ℕ)
-    → compact t D room ≡ building (first (tableGrounds t ++ ((17, false) ∷ (16, ltb (length room) (length (imageOf t (defaults t D)))) ∷ []))) (imageOf t (defaults t D)) room
-unfolding compact compactGrounds compacted
-compact-by t D room =
-    ap (λ (deep : Bool). building (first (tableGrounds t ++ ((17, deep) ∷ (16, ltb (length room) (length (imageOf t (defaults t D)))) ∷ []))) (imageOf t (defaults t D)) room)
-    (le-ltb ((D + 1) / 2) (depthOf (tableView t (defaults t D))) (defaults-depth t D))
+module _ (t : List ℕ) (order : ℕ) (room : List ℕ) where
+  -- What it then answers and leaves.
+  abbrev answers : (ℕ → Option ℕ) → Built
+  answers default = building (first ((18, ltb 2 order) ∷ (tableGrounds t ++ ((17, false) ∷ (16, ltb (length room) (length (imageOf t default))) ∷ [])))) (imageOf t default) room
 
--- D at n - 1 or more binds nothing: with all such bounds compact answers and leaves the same.
-pub compacted-free : (t : List ℕ) (D D′ : ℕ) (room : List ℕ) → states t ≤ D + 1 → states t ≤ D′ + 1 → compact t D room ≡ compact t D′ room
-compacted-free t D D′ room h h′ =
-    compact-by t D room
-    ∙ ap (λ (default : ℕ → Option ℕ). building (first (tableGrounds t ++ ((17, false) ∷ (16, ltb (length room) (length (imageOf t default))) ∷ []))) (imageOf t default) room)
-    (bound-free t D D′ h h′)
-    ∙ sym (compact-by t D′ room)
+  compact-by : (D : ℕ) → compact t order D room ≡ answers (defaults t order D)
+  unfolding compact compactGrounds compacted
+  compact-by D =
+      ap (λ (deep : Bool). building (first ((18, ltb 2 order) ∷ (tableGrounds t ++ ((17, deep) ∷ (16, ltb (length room) (length (imageOf t (defaults t order D)))) ∷ [])))) (imageOf t (defaults t order D)) room)
+      (le-ltb ((D + 1) / 2) (depthOf (tableView t (defaults t order D))) (defaults-depth t order D))
+
+  -- D at n - 1 or more binds nothing: with all such bounds compact answers and leaves the same.
+  pub compacted-free : (D D′ : ℕ) → states t ≤ D + 1 → states t ≤ D′ + 1 → compact t order D room ≡ compact t order D′ room
+  compacted-free D D′ h h′ = compact-by D ∙ ap answers (bound-free t order D D′ h h′) ∙ sym (compact-by D′)

@@ -14,15 +14,16 @@ use Rattle.paper.specs.View.{look}
 use Rattle.paper.specs.Image as image
 use Rattle.paper.specs.Image.{imageView}
 use Rattle.paper.specs.Results.{defaultsOf, tableOf}
-use Rattle.paper.specs.Forest.{weight, singles, weightsOf, forest, defaults}
+use Rattle.paper.specs.Forest.{Trees, weight, singles, weightsOf, rest, forest, defaults}
 use Rattle.paper.specs.Levels.{levels}
+use Rattle.paper.specs.BestPair.{JoinsAll}
 use Rattle.paper.specs.Paths.{TrueDistances}
 use Rattle.paper.specs.Operations.{judgeTable, judgeImage, result, Unchanged, building, compact, write, expand, scan}
 use Rattle.paper.specs.Promises.{SameBuilt, JudgesTable, JudgesImage, Compacts, Writes, Expands, Scans}
 use Rattle.paper.specs.Sentences.{FirstOf, Ends, LongestChain, Serves, LargestHops, tableSentences, imageSentences, compactSentences, writeSentences, expandSentences, scanSentences}
 use Rattle.paper.specs.Follows.{ScansLike}
 use Rattle.paper.specs.Altered.{Altered}
-use Rattle.paper.specs.Cases.{built, right, room, starred, three}
+use Rattle.paper.specs.Cases.{built, right, room, starred, requested, three}
 use Rattle.paper.proofs.Levels.{falling-levels}
 use Rattle.paper.proofs.Exact as exact
 use Rattle.paper.proofs.Determined as one
@@ -32,6 +33,7 @@ use Rattle.facts.proofs.ImageFacts.{accepted-image}
 use Rattle.facts.proofs.Finds as finds
 use Rattle.damage.proofs.Damage as damage
 use Rattle.trees.proofs.TrueDistances as trees
+use Rattle.trees.proofs.Best.{falling-joins, joins-falling}
 use Rattle.trips.proofs.ExpandsBack as expands
 use Rattle.trips.proofs.WritesBack as writes
 use Rattle.scan.proofs.Hops as hops
@@ -41,14 +43,14 @@ use Rattle.kamordast.proofs.Compacted as compacted
 -- Each operation's number is that of the first of its sentences that holds, 0 where none does.
 pub refusals-exact : ((t : List ℕ) (number : ℕ) → judgeTable t ≡ number ↔ FirstOf (tableSentences t) number)
     × ((b : List ℕ) (number : ℕ) → judgeImage b ≡ number ↔ FirstOf (imageSentences b) number)
-    × ((t : List ℕ) (D : ℕ) (room : List ℕ) (number : ℕ) → compact t D room .number ≡ number ↔ FirstOf (compactSentences t D (length room)) number)
+    × ((t : List ℕ) (order D : ℕ) (room : List ℕ) (number : ℕ) → compact t order D room .number ≡ number ↔ FirstOf (compactSentences t order D (length room)) number)
     × ((t ds room : List ℕ) (number : ℕ) → write t ds room .number ≡ number ↔ FirstOf (writeSentences t ds (length room)) number)
     × ((b room : List ℕ) (number : ℕ) → expand b room .number ≡ number ↔ FirstOf (expandSentences b (length room)) number)
     × ((b : List ℕ) (s : ℕ) (payload room : List ℕ) (number : ℕ) → scan b s payload room .number ≡ number ↔ FirstOf (scanSentences b s payload) number)
 refusals-exact = (exact.judge-table-exact, exact.judge-image-exact, exact.compact-exact, exact.write-exact, exact.expand-exact, exact.scan-exact)
 
 -- A refusal answers its number with every other number 0, and leaves the room as it was.
-pub refused-unchanged : ((t : List ℕ) (D : ℕ) (room : List ℕ) → ¬ (compact t D room .number ≡ 0) → Unchanged (compact t D room) room)
+pub refused-unchanged : ((t : List ℕ) (order D : ℕ) (room : List ℕ) → ¬ (compact t order D room .number ≡ 0) → Unchanged (compact t order D room) room)
     × ((t ds room : List ℕ) → ¬ (write t ds room .number ≡ 0) → Unchanged (write t ds room) room)
     × ((b room : List ℕ) → ¬ (expand b room .number ≡ 0) → Unchanged (expand b room) room)
     × ((b : List ℕ) (s : ℕ) (payload room : List ℕ) → ¬ (scan b s payload room .number ≡ 0)
@@ -63,19 +65,27 @@ prefix-refused = damage.prefix-refused
 pub altered-refused : (b b′ : List ℕ) → Bytes b → Bytes b′ → judgeImage b ≡ 0 → Altered b b′ → ¬ (judgeImage b′ ≡ 0)
 altered-refused = damage.altered-refused
 
--- The defaults in what compact leaves are those of the bounded greedy forest, and that forest is three loops: over falling weights, first states and second states.
-pub forest-defined : ((t : List ℕ) (D : ℕ) (room : List ℕ) → Bytes t → compact t D room .number ≡ 0 → (s : ℕ) → s < states t → image.default (result (compact t D room)) s ≡ defaults t D s)
-    × ((t : List ℕ) (D : ℕ) → forest t D ≡ levels (states t) D (weight t) (classes t - 1) singles)
+-- The defaults in what compact leaves are those of the bounded greedy forest in the order asked for, and in order 0 that forest is three loops: over falling weights, first states and second states.
+pub forest-defined : ((t : List ℕ) (order D : ℕ) (room : List ℕ) → Bytes t → compact t order D room .number ≡ 0 → (s : ℕ) → s < states t → image.default (result (compact t order D room)) s ≡ defaults t order D s)
+    × ((t : List ℕ) (D : ℕ) → forest t 0 D ≡ levels (states t) D (weight t) (classes t - 1) singles)
 unfolding forest
 forest-defined = (compacted.compacted-defaults, λ t D. falling-levels (states t) D (weight t) (classes t - 1) singles)
 
+-- In every order the forest is the one that is made by joining, of the pairs of the greatest weight, the best that can be added, as long as there is one: to drop a pair for good loses nothing.
+pub best-pair : (t : List ℕ) (order D : ℕ)
+    → JoinsAll (states t) (rest order (states t)) D (weight t) (classes t - 1) singles (forest t order D)
+    × ((G : Trees) → JoinsAll (states t) (rest order (states t)) D (weight t) (classes t - 1) singles G → forest t order D ≡ G)
+unfolding forest
+best-pair t order D =
+    (falling-joins (states t) (rest order (states t)) D (weight t) (classes t - 1) singles, joins-falling (states t) (rest order (states t)) D (weight t) (classes t - 1) singles)
+
 -- The distances of the forest are the lengths of the paths over the pairs added.
-pub distances-true : (t : List ℕ) (D : ℕ) → TrueDistances (forest t D)
+pub distances-true : (t : List ℕ) (order D : ℕ) → TrueDistances (forest t order D)
 distances-true = trees.distances-true
 
 -- Expanding what write or compact built gives back the table, byte for byte.
 pub expands-back : ((t ds room room′ : List ℕ) → Bytes t → write t ds room .number ≡ 0 → length t ≤ length room′ → expand (result (write t ds room)) room′ ≡ building 0 t room′)
-    × ((t : List ℕ) (D : ℕ) (room room′ : List ℕ) → Bytes t → compact t D room .number ≡ 0 → length t ≤ length room′ → expand (result (compact t D room)) room′ ≡ building 0 t room′)
+    × ((t : List ℕ) (order D : ℕ) (room room′ : List ℕ) → Bytes t → compact t order D room .number ≡ 0 → length t ≤ length room′ → expand (result (compact t order D room)) room′ ≡ building 0 t room′)
 expands-back = (expands.expand-write, expands.expand-compact)
 
 -- Expanding an accepted image and writing it again with its own defaults gives back that image.
@@ -85,7 +95,7 @@ writes-back = writes.write-expand-own
 -- After every byte a scan is in the plain table's state and has reported exactly its matches, and it stops only before the first byte whose report has no room:
 -- for any accepted image and its table, and for what compact and write left of a table that they were handed.
 pub scan-follows : ((b : List ℕ) → Bytes b → judgeImage b ≡ 0 → ScansLike (tableOf b) b)
-    × ((t : List ℕ) (D : ℕ) (room : List ℕ) → Bytes t → compact t D room .number ≡ 0 → ScansLike t (result (compact t D room)))
+    × ((t : List ℕ) (order D : ℕ) (room : List ℕ) → Bytes t → compact t order D room .number ≡ 0 → ScansLike t (result (compact t order D room)))
     × ((t ds room : List ℕ) → Bytes t → write t ds room .number ≡ 0 → ScansLike t (result (write t ds room)))
 scan-follows = (scanned.accepted-scans, scanned.compacted-scans, scanned.written-scans)
 
@@ -116,29 +126,29 @@ pub depth-met : (b : List ℕ) → judgeImage b ≡ 0 → LongestChain (imageVie
 depth-met b e = finds.stated-depth b (accepted-image b e)
 
 -- With path bound D every chain of what compact leaves ends after at most D halved and rounded up, and so is the depth stated.
-pub half-of-bound : (t : List ℕ) (D : ℕ) (room : List ℕ) → Bytes t → compact t D room .number ≡ 0
-    → ((s : ℕ) → s < states t → (l : ℕ) × Ends (imageView (result (compact t D room))) s l × (l ≤ (D + 1) / 2))
-    × (image.depth (result (compact t D room)) ≤ (D + 1) / 2)
-half-of-bound t D room B e = (compacted.compacted-chains t D room B e, compacted.compacted-depth t D room B e)
+pub half-of-bound : (t : List ℕ) (order D : ℕ) (room : List ℕ) → Bytes t → compact t order D room .number ≡ 0
+    → ((s : ℕ) → s < states t → (l : ℕ) × Ends (imageView (result (compact t order D room))) s l × (l ≤ (D + 1) / 2))
+    × (image.depth (result (compact t order D room)) ≤ (D + 1) / 2)
+half-of-bound t order D room B e = (compacted.compacted-chains t order D room B e, compacted.compacted-depth t order D room B e)
 
 -- Of what compact leaves the entries stored, plus the defaults in the records, plus the weights of the pairs added, equal n times k.
-pub entries-sum : (t : List ℕ) (D : ℕ) (room : List ℕ) → Bytes t → compact t D room .number ≡ 0
-    → let b = result (compact t D room) in
-    image.entries b + (howMany (image.states b) (λ s. given (image.default b s)) + weightsOf (weight t) (forest t D .added)) ≡ states t * classes t
+pub entries-sum : (t : List ℕ) (order D : ℕ) (room : List ℕ) → Bytes t → compact t order D room .number ≡ 0
+    → let b = result (compact t order D room) in
+    image.entries b + (howMany (image.states b) (λ s. given (image.default b s)) + weightsOf (weight t) (forest t order D .added)) ≡ states t * classes t
 entries-sum = compacted.compacted-entries
 
 -- D 0 gives no defaults.
-pub bound-zero : (t room : List ℕ) → Bytes t → compact t 0 room .number ≡ 0 → (s : ℕ) → s < states t → image.default (result (compact t 0 room)) s ≡ none
+pub bound-zero : (t : List ℕ) (order : ℕ) (room : List ℕ) → Bytes t → compact t order 0 room .number ≡ 0 → (s : ℕ) → s < states t → image.default (result (compact t order 0 room)) s ≡ none
 bound-zero = compacted.compacted-zero
 
 -- D at n - 1 or more binds nothing: with all such bounds compact answers and leaves the same.
-pub bound-free : (t : List ℕ) (D D′ : ℕ) (room : List ℕ) → states t ≤ D + 1 → states t ≤ D′ + 1 → compact t D room ≡ compact t D′ room
+pub bound-free : (t : List ℕ) (order : ℕ) (room : List ℕ) (D D′ : ℕ) → states t ≤ D + 1 → states t ≤ D′ + 1 → compact t order D room ≡ compact t order D′ room
 bound-free = compacted.compacted-free
 
 -- Of each operation any two outcomes that its promise allows are one: all its numbers, and every byte of its room.
 pub determined : ((t : List ℕ) (n n′ : ℕ) → JudgesTable t n → JudgesTable t n′ → n ≡ n′)
     × ((b : List ℕ) (n n′ : ℕ) → JudgesImage b n → JudgesImage b n′ → n ≡ n′)
-    × ((t : List ℕ) (D : ℕ) (room : List ℕ) (n l n′ l′ : ℕ) (r r′ : List ℕ) → Compacts t D room n l r → Compacts t D room n′ l′ r′ → SameBuilt n l r n′ l′ r′)
+    × ((t : List ℕ) (order D : ℕ) (room : List ℕ) (n l n′ l′ : ℕ) (r r′ : List ℕ) → Compacts t order D room n l r → Compacts t order D room n′ l′ r′ → SameBuilt n l r n′ l′ r′)
     × ((t ds room : List ℕ) (n l n′ l′ : ℕ) (r r′ : List ℕ) → Writes t ds room n l r → Writes t ds room n′ l′ r′ → SameBuilt n l r n′ l′ r′)
     × ((b room : List ℕ) (n l n′ l′ : ℕ) (r r′ : List ℕ) → Expands b room n l r → Expands b room n′ l′ r′ → SameBuilt n l r n′ l′ r′)
     × ((b : List ℕ) (s : ℕ) (payload room : List ℕ) (n t q k h n′ t′ q′ k′ h′ : ℕ) (r r′ : List ℕ)
@@ -152,6 +162,6 @@ determined = (
   one.scan-determined,
 )
 
--- The starred cases, one table, are right; the table of three states compacted with any D has 322 bytes and no defaults.
-pub cases : (right starred ≡ true) × ((D : ℕ) → built (compact three D (room 322)) ≡ 0 ∷ 322 ∷ 6 ∷ 0 ∷ 0 ∷ 65535 ∷ 65535 ∷ 65535 ∷ [])
-cases = stars.cases
+-- The starred cases, one table, are right; the table of three states compacted with any D has 322 bytes and no defaults; and the cases of the requests, another table, are right.
+pub cases : (right starred ≡ true) × ((D : ℕ) → built (compact three 0 D (room 322)) ≡ 0 ∷ 322 ∷ 6 ∷ 0 ∷ 0 ∷ 65535 ∷ 65535 ∷ 65535 ∷ []) × (right requested ≡ true)
+cases = (stars.cases .0, stars.cases .1, stars.requests)

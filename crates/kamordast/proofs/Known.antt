@@ -59,15 +59,15 @@ bytes-room (suc n) zero = omega arith
 bytes-room (suc n) (suc i) = bytes-room n i
 
 -- Compact of T with D 0.
-pub compact-zero : Accepts (compact T 0 (room 352)) 352
+pub compact-zero : Accepts (compact T 0 0 (room 352)) 352
 compact-zero = heads (pick-right 2 starred (cases .0))
 
 -- Compact of T with D 2.
-pub compact-two : Accepts (compact T 2 (room 324)) 324
+pub compact-two : Accepts (compact T 0 2 (room 324)) 324
 compact-two = heads (pick-right 4 starred (cases .0))
 
 -- Compact of the table of three states with D 2.
-pub compact-three : Accepts (compact three 2 (room 322)) 322
+pub compact-three : Accepts (compact three 0 2 (room 322)) 322
 compact-three = heads (cases .1 2)
 
 -- The defaults of T with 0, 1 and 2 to 3, and those of the table of three states with 2 to 1 and 1 to 0.
@@ -120,13 +120,13 @@ bytes-payloads = (bytes-tested aabbb refl, bytes-tested aaaaa refl)
 -- So is the image of T with D 2.
 pub bytes-T2 : Bytes T2
 unfolding compacted
-bytes-T2 = image-of-bytes T (defaults T 2) bytes-T
+bytes-T2 = image-of-bytes T (defaults T 0 2) bytes-T
 
 -- Cases that the paper does not star: the image of T with D 2 is accepted and expands into T, the rooms are filled, and "aaaaa" is scanned.
 abbrev more : List Case
 more =
     (judgeImage T2 ∷ expand T2 (room 294) .number ∷ [], 0 ∷ 0 ∷ [])
-    ∷ (byteAt (compact T 2 (room 324) .room) 0 ∷ byteAt (write T toThree (room 324) .room) 0 ∷ [], 4 ∷ 4 ∷ [])
+    ∷ (byteAt (compact T 0 2 (room 324) .room) 0 ∷ byteAt (write T toThree (room 324) .room) 0 ∷ [], 4 ∷ 4 ∷ [])
     ∷ (byteAt (expand T2 (room 294) .room) 0 ∷ expand T2 (room 294) .resultLength ∷ [], 4 ∷ 294 ∷ [])
     ∷ (scan T2 0 aaaaa (room 12) .state ∷ scan T2 0 aaaaa (room 12) .hops ∷ [], 1 ∷ 4 ∷ []) ∷ []
 
@@ -140,7 +140,7 @@ pub expand-T : (judgeImage T2 ≡ 0) × (expand T2 (room 294) .number ≡ 0)
 expand-T = heads (pick-right 0 more more-right)
 
 -- The rooms of compact, write and expand then begin with n.
-pub filled-rooms : (byteAt (compact T 2 (room 324) .room) 0 ≡ 4) × (byteAt (write T toThree (room 324) .room) 0 ≡ 4) × (byteAt (expand T2 (room 294) .room) 0 ≡ 4)
+pub filled-rooms : (byteAt (compact T 0 2 (room 324) .room) 0 ≡ 4) × (byteAt (write T toThree (room 324) .room) 0 ≡ 4) × (byteAt (expand T2 (room 294) .room) 0 ≡ 4)
 filled-rooms =
     let (c, w) = heads (pick-right 1 more more-right) in
     (c, w, heads (pick-right 2 more more-right) .0)

@@ -39,10 +39,10 @@ image-scans t default B W =
     (accepted-scans (imageOf t default) (image-of-bytes t default B) (image-of-accepted t default B W))
 
 -- So do those of what compact left.
-pub compacted-scans : (t : List ℕ) (D : ℕ) (room : List ℕ) → Bytes t → compact t D room .number ≡ 0 → ScansLike t (result (compact t D room))
-compacted-scans t D room B e =
-    let (w, W) = compact-leaves t D room e in
-    subst (λ (b : List ℕ). ScansLike t b) (sym w) (image-scans t (defaults t D) B W)
+pub compacted-scans : (t : List ℕ) (order D : ℕ) (room : List ℕ) → Bytes t → compact t order D room .number ≡ 0 → ScansLike t (result (compact t order D room))
+compacted-scans t order D room B e =
+    let (w, W) = compact-leaves t order D room e in
+    subst (λ (b : List ℕ). ScansLike t b) (sym w) (image-scans t (defaults t order D) B W)
 
 -- And of what write left, with any list that it accepts.
 pub written-scans : (t ds room : List ℕ) → Bytes t → write t ds room .number ≡ 0 → ScansLike t (result (write t ds room))

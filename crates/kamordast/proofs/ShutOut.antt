@@ -41,20 +41,20 @@ module _ {A : Type 0} (roomOf : A → List ℕ) (operation p : A → Built) (kee
       n (sym (keeps x .length-is ∙ e) ∙ same (keeps x .number-is ∙ z) (keeps x′ .number-is ∙ z′) ∙ (keeps x′ .length-is ∙ e′))
 
 -- A program p that keeps the promise of compact.
-module _ (p : ToCompact → Built) (keeps : (x : ToCompact) → Compacts (x .table) (x .bound) (x .room) (p x .number) (p x .resultLength) (p x .room)) where
+module _ (p : ToCompact → Built) (keeps : (x : ToCompact) → Compacts (x .table) (x .order) (x .bound) (x .room) (p x .number) (p x .resultLength) (p x .room)) where
   -- Compact itself.
   abbrev compacting : ToCompact → Built
-  compacting x = compact (x .table) (x .bound) (x .room)
+  compacting x = compact (x .table) (x .order) (x .bound) (x .room)
 
   -- T with D 0 and with D 2, and the table of three states with D 2.
   abbrev zero-T : ToCompact
-  zero-T = record { table = T; bound = 0; room = room 352; table-bytes = known.bytes-T; bound-small = omega arith; room-bytes = known.bytes-room 352 }
+  zero-T = record { table = T; order = 0; bound = 0; room = room 352; table-bytes = known.bytes-T; order-small = omega arith; bound-small = omega arith; room-bytes = known.bytes-room 352 }
 
   abbrev two-T : ToCompact
-  two-T = record { table = T; bound = 2; room = room 324; table-bytes = known.bytes-T; bound-small = omega arith; room-bytes = known.bytes-room 324 }
+  two-T = record { table = T; order = 0; bound = 2; room = room 324; table-bytes = known.bytes-T; order-small = omega arith; bound-small = omega arith; room-bytes = known.bytes-room 324 }
 
   abbrev two-three : ToCompact
-  two-three = record { table = three; bound = 2; room = room 322; table-bytes = known.bytes-three; bound-small = omega arith; room-bytes = known.bytes-room 322 }
+  two-three = record { table = three; order = 0; bound = 2; room = room 322; table-bytes = known.bytes-three; order-small = omega arith; bound-small = omega arith; room-bytes = known.bytes-room 322 }
 
   -- It does not refuse everything.
   pub compact-refuses-all : ¬ ((x : ToCompact) → ¬ (p x .number ≡ 0))
@@ -64,16 +64,16 @@ module _ (p : ToCompact → Built) (keeps : (x : ToCompact) → Compacts (x .tab
   pub compact-untouched : ¬ ((x : ToCompact) → p x .room ≡ x .room)
   compact-untouched = untouched (λ x. x .room) compacting p keeps two-T 4 (known.filled-rooms .0) (λ e. absurd (omega arith))
 
-  -- Its images do not have one length for each D, as one fixed image for each D has, whatever the table.
-  pub compact-one-image : (fixed : ℕ → ℕ) → ¬ ((x : ToCompact) → p x .number ≡ 0 → p x .resultLength ≡ fixed (x .bound))
+  -- Its images do not have one length for each order and D, as one fixed image for each has, whatever the table.
+  pub compact-one-image : (fixed : ℕ → ℕ → ℕ) → ¬ ((x : ToCompact) → p x .number ≡ 0 → p x .resultLength ≡ fixed (x .order) (x .bound))
   compact-one-image fixed wrong =
       two-lengths (λ x. x .room) compacting p keeps two-T two-three 324 322 known.compact-two known.compact-three (λ e. absurd (omega arith))
       (λ z z′. wrong two-T z ∙ sym (wrong two-three z′))
 
   -- The length of its image does depend on D, so it is no build without defaults whatever D is.
-  pub compact-ignores-bound : ¬ ((x x′ : ToCompact) → x .table ≡ x′ .table → p x .number ≡ 0 → p x′ .number ≡ 0 → p x .resultLength ≡ p x′ .resultLength)
+  pub compact-ignores-bound : ¬ ((x x′ : ToCompact) → x .table ≡ x′ .table → x .order ≡ x′ .order → p x .number ≡ 0 → p x′ .number ≡ 0 → p x .resultLength ≡ p x′ .resultLength)
   compact-ignores-bound wrong =
-      two-lengths (λ x. x .room) compacting p keeps zero-T two-T 352 324 known.compact-zero known.compact-two (λ e. absurd (omega arith)) (wrong zero-T two-T refl)
+      two-lengths (λ x. x .room) compacting p keeps zero-T two-T 352 324 known.compact-zero known.compact-two (λ e. absurd (omega arith)) (wrong zero-T two-T refl refl)
 
 -- A program p that keeps the promise of write.
 module _ (p : ToWrite → Built) (keeps : (x : ToWrite) → Writes (x .table) (x .defaults) (x .room) (p x .number) (p x .resultLength) (p x .room)) where

@@ -43,12 +43,25 @@ pub extern "C" fn kamordast_write(table: &[u8], defaults: &[u8], room: &mut [u8]
     build::write(table, defaults, room)
 }
 
-// Compacts a table: chooses the bounded greedy forest and writes its image at the front of the room.
+// Compacts a table: chooses the bounded greedy forest in order 0 and writes its image at the front of the room.
 #[no_mangle]
 pub extern "C" fn kamordast_compact(table: &[u8], bound: u16, room: &mut [u8]) -> Built
-    ensures { λ r. ⌜ Compacts (now (table .entry)) bound (now (room .entry)) (r .refused) (r .length) (now (room .exit)) ⌝ }
+    ensures { λ r. ⌜ Compacts (now (table .entry)) 0 bound (now (room .entry)) (r .refused) (r .length) (now (room .exit)) ⌝ }
 {
-    build::compact(table, bound, room)
+    build::compact(table, 0, bound, room)
+}
+
+// Compacts a table with the forest in the order asked for: 0 by pairs, 1 BGS, 2 REF.
+#[no_mangle]
+pub extern "C" fn kamordast_compact_in_order(
+    table: &[u8],
+    order: u32,
+    bound: u16,
+    room: &mut [u8],
+) -> Built
+    ensures { λ r. ⌜ Compacts (now (table .entry)) order bound (now (room .entry)) (r .refused) (r .length) (now (room .exit)) ⌝ }
+{
+    build::compact(table, order, bound, room)
 }
 
 // Expands an image into its table at the front of the room.

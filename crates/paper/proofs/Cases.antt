@@ -1,4 +1,4 @@
--- The starred cases are right, by computation, and each of them by itself.
+-- The starred cases and those of the requests are right, by computation, and each of them by itself.
 use mathlib.Core.Path.{_≡_, refl, sym, ap}
 use mathlib.Core.Bool.{Bool, true, cond, true≢false}
 use mathlib.Core.List.{List, [], _∷_}
@@ -14,13 +14,18 @@ use Rattle.paper.specs.Results.{labelBytes, recordBytes, entryBytes, fro
 use Rattle.paper.specs.Forest.{weight, singles, endNear, joined, d, longest, joinedLongest, addedOrDropped, pairs, isRoot, root, pointsTo, forest, defaults}
 use Rattle.paper.specs.Scan.{scanOf}
 use Rattle.paper.specs.Operations.{judgeTable, judgeImage, building, compacted, compactGrounds, compact, writeGrounds, write, expandGrounds, expand, scanGrounds, scan}
-use Rattle.paper.specs.Cases.{built, same, Case, right, room, starred, three}
+use Rattle.paper.specs.Cases.{built, same, Case, right, room, starred, requested, three}
 use Rattle.paper.proofs.Below.{and-true}
 
 -- Every starred case is right, and the table of three states compacted with any D has 322 bytes and no defaults.
-pub cases : (right starred ≡ true) × ((D : ℕ) → built (compact three D (room 322)) ≡ 0 ∷ 322 ∷ 6 ∷ 0 ∷ 0 ∷ 65535 ∷ 65535 ∷ 65535 ∷ [])
+pub cases : (right starred ≡ true) × ((D : ℕ) → built (compact three 0 D (room 322)) ≡ 0 ∷ 322 ∷ 6 ∷ 0 ∷ 0 ∷ 65535 ∷ 65535 ∷ 65535 ∷ [])
 unfolding number16 number32 bytes16 bytes32 _⊕_ checkWord labels next tableGrounds stored depthOf worstOf viewGrounds image.labels image.default image.count image.entryAt imageGrounds labelBytes recordBytes entryBytes front trailer parts imageOfView entriesOf imageOf tableOf weight singles endNear joined d longest joinedLongest addedOrDropped pairs isRoot root pointsTo forest defaults scanOf judgeTable judgeImage compacted compactGrounds compact writeGrounds write expandGrounds expand scanGrounds scan
-cases = (refl, λ D. ap (λ (deep : Bool). built (building (cond deep 17 0) (compacted three D) (room 322))) (le-ltb ((D + 1) / 2) 0 zero-le))
+cases = (refl, λ D. ap (λ (deep : Bool). built (building (cond deep 17 0) (compacted three 0 D) (room 322))) (le-ltb ((D + 1) / 2) 0 zero-le))
+
+-- Every case of the requests is right.
+pub requests : right requested ≡ true
+unfolding number16 number32 bytes16 bytes32 _⊕_ checkWord labels next tableGrounds stored depthOf worstOf viewGrounds image.labels image.default image.count image.entryAt imageGrounds labelBytes recordBytes entryBytes front trailer parts imageOfView entriesOf imageOf tableOf weight singles endNear joined d longest joinedLongest addedOrDropped pairs isRoot root pointsTo forest defaults scanOf judgeTable judgeImage compacted compactGrounds compact writeGrounds write expandGrounds expand scanGrounds scan
+requests = refl
 
 -- Lists that are the same are equal.
 same-equal : (xs ys : List ℕ) → same xs ys ≡ true → xs ≡ ys

@@ -21,9 +21,9 @@ pub judge-image-determined : (b : List ℕ) (n n′ : ℕ) → JudgesImage b n �
 judge-image-determined b n n′ = one
 
 -- Compact.
-pub compact-determined : (t : List ℕ) (D : ℕ) (room : List ℕ) (n l n′ l′ : ℕ) (r r′ : List ℕ)
-    → Compacts t D room n l r → Compacts t D room n′ l′ r′ → SameBuilt n l r n′ l′ r′
-compact-determined t D room = built-determined _
+pub compact-determined : (t : List ℕ) (order D : ℕ) (room : List ℕ) (n l n′ l′ : ℕ) (r r′ : List ℕ)
+    → Compacts t order D room n l r → Compacts t order D room n′ l′ r′ → SameBuilt n l r n′ l′ r′
+compact-determined t order D room = built-determined _
 
 -- Write.
 pub write-determined : (t ds room : List ℕ) (n l n′ l′ : ℕ) (r r′ : List ℕ)

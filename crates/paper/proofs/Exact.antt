@@ -46,18 +46,21 @@ through : (gs : List Ground) (ss : List Sentence) (answer number : ℕ) → answ
 through gs ss answer number e w =
     let x = exact gs ss w number in (λ q. x .0 (sym e ∙ q), λ f. e ∙ x .1 f)
 
-compact-says : (t : List ℕ) (D room : ℕ) → Says (compactGrounds t D room) (compactSentences t D room)
+compact-says : (t : List ℕ) (order D room : ℕ) → Says (compactGrounds t order D room) (compactSentences t order D room)
 unfolding compactGrounds compactSentences
-compact-says t D room =
-    says-append (tableGrounds t) _ (tableSentences t) _ (table-says t)
-    (refl, holds-less ((D + 1) / 2) (depthOf (tableView t (defaults t D))), λ _. (refl, holds-less room (length (compacted t D)), λ _. tt))
+compact-says t order D room = (
+  refl,
+  holds-less 2 order,
+  λ _. says-append (tableGrounds t) _ (tableSentences t) _ (table-says t)
+      (refl, holds-less ((D + 1) / 2) (depthOf (tableView t (defaults t order D))), λ _. (refl, holds-less room (length (compacted t order D)), λ _. tt)),
+)
 
 -- Compact.
-pub compact-exact : (t : List ℕ) (D : ℕ) (room : List ℕ) (number : ℕ) → compact t D room .number ≡ number ↔ FirstOf (compactSentences t D (length room)) number
+pub compact-exact : (t : List ℕ) (order D : ℕ) (room : List ℕ) (number : ℕ) → compact t order D room .number ≡ number ↔ FirstOf (compactSentences t order D (length room)) number
 unfolding compact
-compact-exact t D room number =
-    through (compactGrounds t D (length room)) (compactSentences t D (length room)) _ number (number-building (first (compactGrounds t D (length room))) (compacted t D) room)
-    (compact-says t D (length room))
+compact-exact t order D room number =
+    through (compactGrounds t order D (length room)) (compactSentences t order D (length room)) _ number (number-building (first (compactGrounds t order D (length room))) (compacted t order D) room)
+    (compact-says t order D (length room))
 
 write-says : (t ds : List ℕ) (room : ℕ) → Says (writeGrounds t ds room) (writeSentences t ds room)
 unfolding writeGrounds writeSentences

@@ -24,9 +24,9 @@ building-refused zero result room n = absurd (n refl)
 building-refused (suc r) result room n = (refl, refl)
 
 -- Compact.
-pub compact-refused : (t : List ℕ) (D : ℕ) (room : List ℕ) → ¬ (compact t D room .number ≡ 0) → Unchanged (compact t D room) room
+pub compact-refused : (t : List ℕ) (order D : ℕ) (room : List ℕ) → ¬ (compact t order D room .number ≡ 0) → Unchanged (compact t order D room) room
 unfolding compact
-compact-refused t D room = building-refused (first (compactGrounds t D (length room))) (compacted t D) room
+compact-refused t order D room = building-refused (first (compactGrounds t order D (length room))) (compacted t order D) room
 
 -- Write.
 pub write-refused : (t ds room : List ℕ) → ¬ (write t ds room .number ≡ 0) → Unchanged (write t ds room) room

@@ -1,4 +1,4 @@
--- The cases that the paper marks with a star: one table, one statement.
+-- The cases that the paper marks with a star, and those of the requests: two tables, each one statement.
 use mathlib.Core.Bool.{Bool, true, false, _&&_}
 use mathlib.Core.List.{List, [], _∷_, _++_, map}
 use Prim.Native.Nat.{ℕ}
@@ -9,7 +9,7 @@ use Rattle.paper.specs.Words.{bytes16, bytes32, checkWord}
 use Rattle.paper.specs.Image as image
 use Rattle.paper.specs.Image.{entries, depth, worst}
 use Rattle.paper.specs.Results.{defaultNumber, imageOf}
-use Rattle.paper.specs.Forest.{weight}
+use Rattle.paper.specs.Forest.{weight, forest}
 use Rattle.paper.specs.Operations.{judgeTable, Built, compacted, compact, listed, write, Scanned, scan}
 
 -- Numbers of 16 bits, one after the other.
@@ -63,7 +63,7 @@ aabbb = 97 ∷ 97 ∷ 98 ∷ 98 ∷ 98 ∷ []
 
 -- The image of T with D 2.
 abbrev pub T2 : List ℕ
-T2 = compacted T 2
+T2 = compacted T 0 2
 
 -- T written with 0, 1 and 2 to 3.
 abbrev pub T3 : List ℕ
@@ -85,14 +85,19 @@ abbrev pub right : List Case → Bool
 right [] = true
 right (c ∷ cs) = same (c .0) (c .1) && right cs
 
+-- The pairs of a list as numbers, those added first at the front.
+abbrev pub shown : List (ℕ × ℕ) → List ℕ
+shown [] = []
+shown (p ∷ ps) = shown ps ++ (p .0 ∷ p .1 ∷ [])
+
 -- The starred cases in the paper's order; 65535 is no default, and a room is 255 where it is not written.
 abbrev pub starred : List Case
 starred =
     (length T ∷ judgeTable T ∷ [], 294 ∷ 0 ∷ [])
     ∷ (map (λ (p : ℕ × ℕ). weight T (p .0) (p .1)) ((0, 3) ∷ (0, 1) ∷ (0, 2) ∷ (1, 2) ∷ (1, 3) ∷ (2, 3) ∷ []), 2 ∷ 1 ∷ 1 ∷ 1 ∷ 1 ∷ 1 ∷ [])
-    ∷ (built (compact T 0 (room 352)), 0 ∷ 352 ∷ 12 ∷ 0 ∷ 0 ∷ 65535 ∷ 65535 ∷ 65535 ∷ 65535 ∷ [])
-    ∷ (built (compact T 1 (room 332)), 0 ∷ 332 ∷ 7 ∷ 1 ∷ 1 ∷ 65535 ∷ 65535 ∷ 1 ∷ 0 ∷ [])
-    ∷ (built (compact T 2 (room 324)), 0 ∷ 324 ∷ 5 ∷ 1 ∷ 1 ∷ 65535 ∷ 0 ∷ 0 ∷ 0 ∷ [])
+    ∷ (built (compact T 0 0 (room 352)), 0 ∷ 352 ∷ 12 ∷ 0 ∷ 0 ∷ 65535 ∷ 65535 ∷ 65535 ∷ 65535 ∷ [])
+    ∷ (built (compact T 0 1 (room 332)), 0 ∷ 332 ∷ 7 ∷ 1 ∷ 1 ∷ 65535 ∷ 65535 ∷ 1 ∷ 0 ∷ [])
+    ∷ (built (compact T 0 2 (room 324)), 0 ∷ 324 ∷ 5 ∷ 1 ∷ 1 ∷ 65535 ∷ 0 ∷ 0 ∷ 0 ∷ [])
     ∷ (map (λ p. scan T2 0 p (room 12) .state) (beginnings aabbb), 1 ∷ 1 ∷ 2 ∷ 3 ∷ 0 ∷ [])
     ∷ (scanned (scan T2 0 aabbb (room 12)), 0 ∷ 5 ∷ 0 ∷ 2 ∷ 2 ∷ (bytes32 2 ++ bytes16 7 ++ bytes32 3 ++ bytes16 9))
     ∷ (scanned (scan T2 0 aabbb (room 6)), 0 ∷ 3 ∷ 2 ∷ 1 ∷ 1 ∷ (bytes32 2 ++ bytes16 7))
@@ -100,6 +105,16 @@ starred =
     ∷ (built (write T (all16 (3 ∷ 3 ∷ 3 ∷ 65535 ∷ [])) (room 324)), 0 ∷ 324 ∷ 5 ∷ 1 ∷ 1 ∷ 3 ∷ 3 ∷ 3 ∷ 65535 ∷ [])
     ∷ (scanned (scan T3 0 (97 ∷ []) (room 6)), 0 ∷ 1 ∷ 1 ∷ 0 ∷ 1 ∷ room 6)
     ∷ (built (write three (all16 (65535 ∷ 0 ∷ 1 ∷ [])) (room 314)), 0 ∷ 314 ∷ 4 ∷ 2 ∷ 1 ∷ 65535 ∷ 0 ∷ 1 ∷ [])
-    ∷ (built (compact eight 2 (room 340)), 0 ∷ 340 ∷ 3 ∷ 1 ∷ 1 ∷ 65535 ∷ 0 ∷ 0 ∷ 0 ∷ 0 ∷ 0 ∷ 0 ∷ 0 ∷ [])
+    ∷ (built (compact eight 0 2 (room 340)), 0 ∷ 340 ∷ 3 ∷ 1 ∷ 1 ∷ 65535 ∷ 0 ∷ 0 ∷ 0 ∷ 0 ∷ 0 ∷ 0 ∷ 0 ∷ [])
     ∷ (map checkWord ([] ∷ (1 ∷ 2 ∷ []) ∷ (65535 ∷ 1 ∷ []) ∷ []), 65535 ∷ 65532 ∷ 65534 ∷ [])
+    ∷ []
+
+-- The cases of the requests in their order, 65535 and 255 as above.
+abbrev pub requested : List Case
+requested =
+    (shown (forest eight 1 2 .added), 0 ∷ 1 ∷ 2 ∷ 3 ∷ 4 ∷ 5 ∷ 6 ∷ 7 ∷ [])
+    ∷ (built (compact eight 1 2 (room 376)), 0 ∷ 376 ∷ 12 ∷ 1 ∷ 1 ∷ 65535 ∷ 0 ∷ 65535 ∷ 2 ∷ 65535 ∷ 4 ∷ 65535 ∷ 6 ∷ [])
+    ∷ (built (compact eight 2 2 (room 340)), 0 ∷ 340 ∷ 3 ∷ 1 ∷ 1 ∷ 65535 ∷ 0 ∷ 0 ∷ 0 ∷ 0 ∷ 0 ∷ 0 ∷ 0 ∷ [])
+    ∷ (compact [] 3 2 [] .number ∷ [], 18 ∷ [])
+    ∷ (map checkWord ((32768 ∷ 32768 ∷ []) ∷ (1 ∷ 65534 ∷ []) ∷ (65535 ∷ 65535 ∷ 65535 ∷ []) ∷ (65535 ∷ 2 ∷ 65535 ∷ []) ∷ []), 65534 ∷ 0 ∷ 0 ∷ 65533 ∷ [])
     ∷ []

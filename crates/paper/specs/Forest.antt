@@ -44,9 +44,21 @@ module _ (n : ℕ) where
   unfoldable pub longest : Trees → ℕ → ℕ
   longest F x = largest n (λ y. cond (eqb (F .tree x) (F .tree y)) (d F y) 0)
 
+  -- The longest path that goes over the pair (u, v), once it joins the trees of u and v.
+  abbrev pub across : Trees → ℕ → ℕ → ℕ
+  across F u v = d F u + d F v + 1
+
+  -- The larger of the longest paths of the trees of u and v.
+  abbrev pub longestOfBoth : Trees → ℕ → ℕ → ℕ
+  longestOfBoth F u v = max (longest F u) (longest F v)
+
   -- The longest path of the trees of u and v joined by the pair.
   unfoldable pub joinedLongest : Trees → ℕ → ℕ → ℕ
-  joinedLongest F u v = max (max (longest F u) (longest F v)) (d F u + d F v + 1)
+  joinedLongest F u v = max (longestOfBoth F u v) (across F u v)
+
+  -- How much longer the pair makes the longest path: the larger of 0 and what the path over the pair has more than the longer of both trees' longest paths.
+  abbrev pub growth : Trees → ℕ → ℕ → ℕ
+  growth F u v = across F u v - longestOfBoth F u v
 
   -- The pair is added if its ends lie in different trees and the joined tree's longest path is at most D, and otherwise dropped.
   unfoldable pub addedOrDropped : ℕ → Trees → ℕ × ℕ → Trees
@@ -111,18 +123,20 @@ abbrev pub weightsOf : (ℕ → ℕ → ℕ) → List (ℕ × ℕ) → ℕ
 weightsOf weight [] = 0
 weightsOf weight (p ∷ ps) = weight (p .0) (p .1) + weightsOf weight ps
 
--- The number that orders pairs of equal weight before their states; this paper has none, so 0.
-abbrev pub rest : ℕ → Trees → ℕ × ℕ → ℕ
-rest n F p = 0
+-- The number that orders pairs of equal weight before their states: none in order 0, so 0; in order 1 (BGS) the longest path over the pair; in order 2 (REF) the growth.
+abbrev pub rest : ℕ → ℕ → Trees → ℕ × ℕ → ℕ
+rest zero n F p = 0
+rest (suc zero) n F p = across n F (p .0) (p .1)
+rest (suc (suc order)) n F p = growth n F (p .0) (p .1)
 
 -- The number that orders states of equal d before their own numbers when a root is chosen; this paper has none, so 0.
 abbrev pub lean : ℕ → Trees → ℕ → ℕ
 lean n F x = 0
 
--- The forest of a table with path bound D; no weight is above k - 1.
-unfoldable pub forest : List ℕ → ℕ → Trees
-forest t D = falling (states t) (rest (states t)) D (weight t) (classes t - 1) singles
+-- The forest of a table in an order with path bound D; no weight is above k - 1.
+unfoldable pub forest : List ℕ → ℕ → ℕ → Trees
+forest t order D = falling (states t) (rest order (states t)) D (weight t) (classes t - 1) singles
 
--- The default of each state of a table with path bound D.
-unfoldable pub defaults : List ℕ → ℕ → ℕ → Option ℕ
-defaults t D = pointsTo (states t) (lean (states t)) (forest t D)
+-- The default of each state of a table in an order with path bound D.
+unfoldable pub defaults : List ℕ → ℕ → ℕ → ℕ → Option ℕ
+defaults t order D = pointsTo (states t) (lean (states t)) (forest t order D)

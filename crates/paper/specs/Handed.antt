@@ -8,12 +8,14 @@ pub record ToJudge : Type 0 where
   pub given : List ℕ
   pub given-bytes : Bytes given
 
--- To compact: a table, a bound of 16 bits and a room.
+-- To compact: a table, an order of 32 bits, a bound of 16 bits and a room.
 pub record ToCompact : Type 0 where
   pub table : List ℕ
+  pub order : ℕ
   pub bound : ℕ
   pub room : List ℕ
   pub table-bytes : Bytes table
+  pub order-small : order < 4294967296
   pub bound-small : bound < 65536
   pub room-bytes : Bytes room
 

@@ -7,6 +7,7 @@ pub mod Image
 pub mod Results
 pub mod Forest
 pub mod Levels
+pub mod BestPair
 pub mod Paths
 pub mod Scan
 pub mod Walk

@@ -124,13 +124,14 @@ imageSentences b =
     ∷ (7, ClassesWrong k (image.classOf b))
     ∷ viewSentences (imageView b) (image.classOf b) m (image.depth b) (image.worst b)
 
--- Compact: the table's, 17, 16.
-unfoldable pub compactSentences : List ℕ → ℕ → ℕ → List Sentence
-compactSentences t D room =
-    tableSentences t
-    ++ ((17, (D + 1) / 2 < depthOf (tableView t (defaults t D)))
-    ∷ (16, room < length (compacted t D))
-    ∷ [])
+-- Compact: 18 (an order above 2), the table's, 17, 16.
+unfoldable pub compactSentences : List ℕ → ℕ → ℕ → ℕ → List Sentence
+compactSentences t order D room =
+    (18, 2 < order)
+    ∷ (tableSentences t
+    ++ ((17, (D + 1) / 2 < depthOf (tableView t (defaults t order D)))
+    ∷ (16, room < length (compacted t order D))
+    ∷ []))
 
 -- Write: the table's, 8 (list length and values only), 11, 16.
 unfoldable pub writeSentences : List ℕ → List ℕ → ℕ → List Sentence

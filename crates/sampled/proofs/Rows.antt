@@ -17,6 +17,8 @@ use Rattle.sampled.specs.Sample12 as sample12
 use Rattle.sampled.specs.Sample13 as sample13
 use Rattle.sampled.specs.Sample14 as sample14
 use Rattle.sampled.specs.Sample15 as sample15
+use Rattle.sampled.specs.Sample16 as sample16
+use Rattle.sampled.specs.Sample17 as sample17
 
 -- The rows of Sample1 are right.
 pub sample1-right : right sample1.rows ≡ true
@@ -92,3 +94,13 @@ sample14-right = refl {a = true}
 pub sample15-right : right sample15.rows ≡ true
 unfolding agrees
 sample15-right = refl {a = true}
+
+-- The rows of Sample16 are right: the orders 1 and 2.
+pub sample16-right : right sample16.rows ≡ true
+unfolding agrees
+sample16-right = refl {a = true}
+
+-- The rows of Sample17 are right: the orders 1 and 2.
+pub sample17-right : right sample17.rows ≡ true
+unfolding agrees
+sample17-right = refl {a = true}

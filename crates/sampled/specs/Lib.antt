@@ -14,3 +14,5 @@ pub mod Sample12
 pub mod Sample13
 pub mod Sample14
 pub mod Sample15
+pub mod Sample16
+pub mod Sample17

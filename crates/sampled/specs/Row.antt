@@ -29,8 +29,8 @@ pub data Written : Type 0 where
 
 -- A case: what is lent beside the row's table or one of its images, the length of the room, the numbers answered, and what was written.
 pub data Case : Type 0 where
-  -- A path bound.
-  compacts : ℕ → ℕ → List ℕ → Written → Case
+  -- An order and a path bound.
+  compacts : ℕ → ℕ → ℕ → List ℕ → Written → Case
   -- The words of a list of defaults, and its length in bytes.
   writes : List ℕ → ℕ → ℕ → List ℕ → Written → Case
   -- One of the row's images; there is no room, and one number is answered.
@@ -102,7 +102,7 @@ module _ (t : List ℕ) (images : List (List ℕ)) where
   -- The definitions compute what the independent implementation answered and wrote.
   unfoldable pub agrees : Case → Bool
   unfolding number16 number32 bytes16 bytes32 _⊕_ checkWord labels next tableGrounds stored depthOf worstOf viewGrounds image.labels image.default image.count image.entryAt imageGrounds labelBytes recordBytes entryBytes front trailer parts imageOfView entriesOf imageOf tableFrom tableOf weight singles endNear joined d longest joinedLongest addedOrDropped pairs isRoot root pointsTo forest defaults scanOf judgeTable judgeImage compacted compactGrounds compact writeGrounds write expandGrounds expand scanGrounds scan
-  agrees (compacts D r ns w) = builds (compact t D (room r)) ns (after w r)
+  agrees (compacts order D r ns w) = builds (compact t order D (room r)) ns (after w r)
   agrees (writes ds n r ns w) = builds (write t (take n (all16 ds)) (room r)) ns (after w r)
   agrees (judges i l n) = eqb (judgeImage (lentBytes l (getD images i []))) n
   agrees (expands i l r ns w) = builds (expand (lentBytes l (getD images i [])) (room r)) ns (after w r)

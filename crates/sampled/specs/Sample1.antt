@@ -14,8 +14,8 @@ rows =
           (1 ∷ 1 ∷ 0 ∷ 0 ∷ 1 ∷ 0 ∷ 0 ∷ 65535 ∷ 1 ∷ 0 ∷ 0 ∷ 16 ∷ 0 ∷ 290 ∷ 0 ∷ 0 ∷ 65225 ∷ [])
           ∷ [];
       cases =
-          compacts 1 290 (0 ∷ 290 ∷ []) (theImage 0)
-          ∷ compacts 0 289 (16 ∷ 0 ∷ []) nothing
+          compacts 0 1 290 (0 ∷ 290 ∷ []) (theImage 0)
+          ∷ compacts 0 0 289 (16 ∷ 0 ∷ []) nothing
           ∷ scans 0 (damaged 290 ((2, 0) ∷ (288, 202) ∷ [])) 0 (129 ∷ 93 ∷ 98 ∷ []) 0 (2 ∷ 0 ∷ 0 ∷ 0 ∷ 0 ∷ []) nothing
           ∷ [];
     }
@@ -28,8 +28,8 @@ rows =
           (2 ∷ 4 ∷ 0 ∷ 1 ∷ 6 ∷ 0 ∷ 55289 ∷ 0 ∷ 65535 ∷ 4 ∷ 0 ∷ 2 ∷ 0 ∷ 0 ∷ 1 ∷ 0 ∷ 2 ∷ 1 ∷ 3 ∷ 1 ∷ 0 ∷ 1 ∷ 3 ∷ 0 ∷ 36 ∷ 0 ∷ 316 ∷ 0 ∷ 1 ∷ 29909 ∷ [])
           ∷ [];
       cases =
-          compacts 1 316 (0 ∷ 316 ∷ []) (theImage 0)
-          ∷ compacts 3 316 (0 ∷ 316 ∷ []) (theImage 0)
+          compacts 0 1 316 (0 ∷ 316 ∷ []) (theImage 0)
+          ∷ compacts 0 3 316 (0 ∷ 316 ∷ []) (theImage 0)
           ∷ expands 0 whole 288 (0 ∷ 282 ∷ []) (theTable whole)
           ∷ [];
     }
@@ -43,8 +43,8 @@ rows =
           ∷ 0 ∷ 1 ∷ 23813 ∷ [])
           ∷ [];
       cases =
-          compacts 2 333 (0 ∷ 326 ∷ []) (theImage 0)
-          ∷ compacts 2 154 (16 ∷ 0 ∷ []) nothing
+          compacts 0 2 333 (0 ∷ 326 ∷ []) (theImage 0)
+          ∷ compacts 0 2 154 (16 ∷ 0 ∷ []) nothing
           ∷ expands 0 whole 297 (0 ∷ 292 ∷ []) (theTable whole)
           ∷ [];
     }
@@ -58,8 +58,8 @@ rows =
           ∷ 0 ∷ 3 ∷ 0 ∷ 0 ∷ 1 ∷ 2 ∷ 2 ∷ 2 ∷ 52 ∷ 0 ∷ 344 ∷ 0 ∷ 1 ∷ 16765 ∷ [])
           ∷ [];
       cases =
-          compacts 3 344 (0 ∷ 344 ∷ []) (theImage 0)
-          ∷ compacts 3 344 (0 ∷ 344 ∷ []) (theImage 0)
+          compacts 0 3 344 (0 ∷ 344 ∷ []) (theImage 0)
+          ∷ compacts 0 3 344 (0 ∷ 344 ∷ []) (theImage 0)
           ∷ scans 0 whole 2 (83 ∷ 120 ∷ 74 ∷ 124 ∷ 221 ∷ []) 2 (0 ∷ 2 ∷ 0 ∷ 0 ∷ 0 ∷ []) nothing
           ∷ [];
     }
@@ -79,8 +79,8 @@ rows =
           ∷ [])
           ∷ [];
       cases =
-          compacts 1 402 (0 ∷ 402 ∷ []) (theImage 0)
-          ∷ compacts 65535 382 (0 ∷ 382 ∷ []) (theImage 1)
+          compacts 0 1 402 (0 ∷ 402 ∷ []) (theImage 0)
+          ∷ compacts 0 65535 382 (0 ∷ 382 ∷ []) (theImage 1)
           ∷ scans 0 whole 1 (232 ∷ 105 ∷ 122 ∷ 75 ∷ []) 10 (0 ∷ 1 ∷ 4 ∷ 1 ∷ 0 ∷ []) (these (0 ∷ 0 ∷ 29326 ∷ []))
           ∷ [];
     }
@@ -94,8 +94,8 @@ rows =
           ∷ 328 ∷ 0 ∷ 1 ∷ 26979 ∷ [])
           ∷ [];
       cases =
-          compacts 2 328 (0 ∷ 328 ∷ []) (theImage 0)
-          ∷ compacts 2 328 (0 ∷ 328 ∷ []) (theImage 0)
+          compacts 0 2 328 (0 ∷ 328 ∷ []) (theImage 0)
+          ∷ compacts 0 2 328 (0 ∷ 328 ∷ []) (theImage 0)
           ∷ judges 0 (damaged 328 ((280, 0) ∷ (281, 0) ∷ [])) 11
           ∷ [];
     }
@@ -111,8 +111,8 @@ rows =
           ∷ 1 ∷ 0 ∷ 1 ∷ 0 ∷ 0 ∷ 6 ∷ 1 ∷ 0 ∷ 2 ∷ 1 ∷ 0 ∷ 3 ∷ 1 ∷ 0 ∷ 2 ∷ 7 ∷ 36 ∷ 0 ∷ 358 ∷ 0 ∷ 1 ∷ 48511 ∷ [])
           ∷ [];
       cases =
-          compacts 3 358 (0 ∷ 358 ∷ []) (theImage 0)
-          ∷ compacts 3 361 (0 ∷ 358 ∷ []) (theImage 0)
+          compacts 0 3 358 (0 ∷ 358 ∷ []) (theImage 0)
+          ∷ compacts 0 3 361 (0 ∷ 358 ∷ []) (theImage 0)
           ∷ writes (2 ∷ 65535 ∷ 65535 ∷ 5 ∷ 7 ∷ 65535 ∷ 7 ∷ 8 ∷ 65535 ∷ []) 18 339 (16 ∷ 0 ∷ []) nothing
           ∷ [];
     }
@@ -123,7 +123,7 @@ rows =
       judged = 1;
       images = [];
       cases =
-          compacts 3 400 (1 ∷ 0 ∷ []) nothing
+          compacts 0 3 400 (1 ∷ 0 ∷ []) nothing
           ∷ writes (4 ∷ 2 ∷ 0 ∷ 4 ∷ 4 ∷ 3 ∷ []) 12 11 (1 ∷ 0 ∷ []) nothing
           ∷ [];
     }

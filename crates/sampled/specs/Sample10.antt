@@ -16,8 +16,8 @@ rows =
           ∷ (3 ∷ 4 ∷ 0 ∷ 1 ∷ 4 ∷ 0 ∷ 0 ∷ 59984 ∷ 0 ∷ 65535 ∷ 4 ∷ 0 ∷ 0 ∷ 0 ∷ 0 ∷ 0 ∷ 2 ∷ 1 ∷ 1 ∷ 2 ∷ 0 ∷ 3 ∷ 1 ∷ 28 ∷ 0 ∷ 314 ∷ 0 ∷ 1 ∷ 21629 ∷ [])
           ∷ [];
       cases =
-          compacts 1 330 (0 ∷ 330 ∷ []) (theImage 0)
-          ∷ compacts 2 317 (0 ∷ 314 ∷ []) (theImage 1)
+          compacts 0 1 330 (0 ∷ 330 ∷ []) (theImage 0)
+          ∷ compacts 0 2 317 (0 ∷ 314 ∷ []) (theImage 1)
           ∷ scans 1 whole 2 (8 ∷ []) 3 (0 ∷ 0 ∷ 2 ∷ 0 ∷ 0 ∷ []) nothing
           ∷ [];
     }
@@ -31,8 +31,8 @@ rows =
           ∷ 328 ∷ 0 ∷ 1 ∷ 42017 ∷ [])
           ∷ [];
       cases =
-          compacts 2 328 (0 ∷ 328 ∷ []) (theImage 0)
-          ∷ compacts 5 328 (0 ∷ 328 ∷ []) (theImage 0)
+          compacts 0 2 328 (0 ∷ 328 ∷ []) (theImage 0)
+          ∷ compacts 0 5 328 (0 ∷ 328 ∷ []) (theImage 0)
           ∷ judges 0 (damaged 328 ([])) 0
           ∷ [];
     }
@@ -46,8 +46,8 @@ rows =
           ∷ 1 ∷ 3 ∷ 2 ∷ 3 ∷ 44 ∷ 0 ∷ 342 ∷ 0 ∷ 2 ∷ 27821 ∷ [])
           ∷ [];
       cases =
-          compacts 3 349 (0 ∷ 342 ∷ []) (theImage 0)
-          ∷ compacts 7 341 (16 ∷ 0 ∷ []) nothing
+          compacts 0 3 349 (0 ∷ 342 ∷ []) (theImage 0)
+          ∷ compacts 0 7 341 (16 ∷ 0 ∷ []) nothing
           ∷ writes (2 ∷ 2 ∷ 3 ∷ 65535 ∷ 5 ∷ []) 10 500 (8 ∷ 0 ∷ []) nothing
           ∷ [];
     }
@@ -68,8 +68,8 @@ rows =
           ∷ 0 ∷ 3 ∷ 1 ∷ 2 ∷ 2 ∷ 5 ∷ 3 ∷ 5 ∷ 100 ∷ 0 ∷ 404 ∷ 0 ∷ 1 ∷ 3067 ∷ [])
           ∷ [];
       cases =
-          compacts 3 370 (0 ∷ 368 ∷ []) (theImage 0)
-          ∷ compacts 2 374 (0 ∷ 372 ∷ []) (theImage 1)
+          compacts 0 3 370 (0 ∷ 368 ∷ []) (theImage 0)
+          ∷ compacts 0 2 374 (0 ∷ 372 ∷ []) (theImage 1)
           ∷ writes (65535 ∷ 65535 ∷ 65535 ∷ 5 ∷ 65535 ∷ 65535 ∷ []) 12 404 (0 ∷ 404 ∷ []) (theImage 2)
           ∷ [];
     }
@@ -85,8 +85,8 @@ rows =
           ∷ 3 ∷ 3 ∷ 5 ∷ 28 ∷ 0 ∷ 338 ∷ 0 ∷ 1 ∷ 35922 ∷ [])
           ∷ [];
       cases =
-          compacts 2 343 (0 ∷ 338 ∷ []) (theImage 0)
-          ∷ compacts 3 338 (0 ∷ 338 ∷ []) (theImage 0)
+          compacts 0 2 343 (0 ∷ 338 ∷ []) (theImage 0)
+          ∷ compacts 0 3 338 (0 ∷ 338 ∷ []) (theImage 0)
           ∷ expands 0 whole 136 (16 ∷ 0 ∷ []) nothing
           ∷ [];
     }
@@ -100,13 +100,13 @@ rows =
           ∷ 0 ∷ 60591 ∷ [])
           ∷ [];
       cases =
-          compacts 1 320 (0 ∷ 320 ∷ []) (theImage 0)
-          ∷ compacts 2 320 (0 ∷ 320 ∷ []) (theImage 0)
-          ∷ compacts 3 320 (0 ∷ 320 ∷ []) (theImage 0)
-          ∷ compacts 0 320 (0 ∷ 320 ∷ []) (theImage 0)
-          ∷ compacts 65535 320 (0 ∷ 320 ∷ []) (theImage 0)
-          ∷ compacts 8 321 (0 ∷ 320 ∷ []) (theImage 0)
-          ∷ compacts 65535 17 (16 ∷ 0 ∷ []) nothing
+          compacts 0 1 320 (0 ∷ 320 ∷ []) (theImage 0)
+          ∷ compacts 0 2 320 (0 ∷ 320 ∷ []) (theImage 0)
+          ∷ compacts 0 3 320 (0 ∷ 320 ∷ []) (theImage 0)
+          ∷ compacts 0 0 320 (0 ∷ 320 ∷ []) (theImage 0)
+          ∷ compacts 0 65535 320 (0 ∷ 320 ∷ []) (theImage 0)
+          ∷ compacts 0 8 321 (0 ∷ 320 ∷ []) (theImage 0)
+          ∷ compacts 0 65535 17 (16 ∷ 0 ∷ []) nothing
           ∷ writes (65535 ∷ 65535 ∷ 65535 ∷ 65535 ∷ []) 8 320 (0 ∷ 320 ∷ []) (theImage 0)
           ∷ writes (65535 ∷ 0 ∷ 65535 ∷ 65535 ∷ []) 8 127 (16 ∷ 0 ∷ []) nothing
           ∷ writes (1 ∷ 3 ∷ 2 ∷ 2 ∷ []) 8 7 (11 ∷ 0 ∷ []) nothing
@@ -127,8 +127,8 @@ rows =
           ∷ 0 ∷ 0 ∷ 0 ∷ 0 ∷ 0 ∷ 0 ∷ 0 ∷ 0 ∷ 10 ∷ 1 ∷ 6 ∷ 20 ∷ 0 ∷ 354 ∷ 0 ∷ 1 ∷ 38937 ∷ [])
           ∷ [];
       cases =
-          compacts 3 361 (0 ∷ 354 ∷ []) (theImage 0)
-          ∷ compacts 2 354 (0 ∷ 354 ∷ []) (theImage 0)
+          compacts 0 3 361 (0 ∷ 354 ∷ []) (theImage 0)
+          ∷ compacts 0 2 354 (0 ∷ 354 ∷ []) (theImage 0)
           ∷ writes (0 ∷ 1 ∷ 5 ∷ 5 ∷ 1 ∷ 3 ∷ 6 ∷ 6 ∷ 1 ∷ 1 ∷ 6 ∷ []) 22 0 (11 ∷ 0 ∷ []) nothing
           ∷ [];
     }
@@ -139,7 +139,7 @@ rows =
       judged = 6;
       images = [];
       cases =
-          compacts 0 400 (6 ∷ 0 ∷ []) nothing
+          compacts 0 0 400 (6 ∷ 0 ∷ []) nothing
           ∷ writes (2 ∷ 65535 ∷ 1 ∷ []) 6 16 (6 ∷ 0 ∷ []) nothing
           ∷ [];
     }

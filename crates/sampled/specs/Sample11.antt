@@ -14,8 +14,8 @@ rows =
           (1 ∷ 1 ∷ 0 ∷ 0 ∷ 1 ∷ 0 ∷ 55982 ∷ 65535 ∷ 1 ∷ 0 ∷ 0 ∷ 16 ∷ 0 ∷ 290 ∷ 0 ∷ 0 ∷ 9243 ∷ [])
           ∷ [];
       cases =
-          compacts 2 295 (0 ∷ 290 ∷ []) (theImage 0)
-          ∷ compacts 4 297 (0 ∷ 290 ∷ []) (theImage 0)
+          compacts 0 2 295 (0 ∷ 290 ∷ []) (theImage 0)
+          ∷ compacts 0 4 297 (0 ∷ 290 ∷ []) (theImage 0)
           ∷ writes (65535 ∷ []) 2 26 (16 ∷ 0 ∷ []) nothing
           ∷ [];
     }
@@ -28,8 +28,8 @@ rows =
           (2 ∷ 5 ∷ 0 ∷ 1 ∷ 6 ∷ 0 ∷ 0 ∷ 29329 ∷ 65535 ∷ 5 ∷ 0 ∷ 1 ∷ 0 ∷ 1 ∷ 1 ∷ 0 ∷ 2 ∷ 1 ∷ 3 ∷ 1 ∷ 4 ∷ 0 ∷ 0 ∷ 0 ∷ 36 ∷ 0 ∷ 316 ∷ 0 ∷ 1 ∷ 18860 ∷ [])
           ∷ [];
       cases =
-          compacts 1 316 (0 ∷ 316 ∷ []) (theImage 0)
-          ∷ compacts 0 331 (16 ∷ 0 ∷ []) nothing
+          compacts 0 1 316 (0 ∷ 316 ∷ []) (theImage 0)
+          ∷ compacts 0 0 331 (16 ∷ 0 ∷ []) nothing
           ∷ judges 0 (damaged 316 ((312, 2) ∷ (314, 171) ∷ [])) 13
           ∷ [];
     }
@@ -45,8 +45,8 @@ rows =
           ∷ 2 ∷ 1 ∷ 48 ∷ 0 ∷ 334 ∷ 0 ∷ 0 ∷ 9980 ∷ [])
           ∷ [];
       cases =
-          compacts 2 327 (0 ∷ 326 ∷ []) (theImage 0)
-          ∷ compacts 0 335 (0 ∷ 334 ∷ []) (theImage 1)
+          compacts 0 2 327 (0 ∷ 326 ∷ []) (theImage 0)
+          ∷ compacts 0 0 335 (0 ∷ 334 ∷ []) (theImage 1)
           ∷ writes (65535 ∷ 2 ∷ 0 ∷ []) 6 260 (16 ∷ 0 ∷ []) nothing
           ∷ [];
     }
@@ -64,8 +64,8 @@ rows =
           ∷ 0 ∷ 3 ∷ 0 ∷ 4 ∷ 2 ∷ 0 ∷ 2 ∷ 1 ∷ 1 ∷ 3 ∷ 1 ∷ 4 ∷ 0 ∷ 0 ∷ 2 ∷ 3 ∷ 1 ∷ 4 ∷ 0 ∷ 80 ∷ 0 ∷ 372 ∷ 0 ∷ 1 ∷ 19740 ∷ [])
           ∷ [];
       cases =
-          compacts 1 376 (0 ∷ 368 ∷ []) (theImage 0)
-          ∷ compacts 2 360 (0 ∷ 360 ∷ []) (theImage 1)
+          compacts 0 1 376 (0 ∷ 368 ∷ []) (theImage 0)
+          ∷ compacts 0 2 360 (0 ∷ 360 ∷ []) (theImage 1)
           ∷ writes (3 ∷ 65535 ∷ 1 ∷ 1 ∷ []) 8 374 (0 ∷ 372 ∷ []) (theImage 2)
           ∷ [];
     }
@@ -79,8 +79,8 @@ rows =
           ∷ 2 ∷ 1 ∷ 0 ∷ 4 ∷ 1 ∷ 0 ∷ 2 ∷ 0 ∷ 48 ∷ 0 ∷ 346 ∷ 0 ∷ 1 ∷ 58516 ∷ [])
           ∷ [];
       cases =
-          compacts 2 346 (0 ∷ 346 ∷ []) (theImage 0)
-          ∷ compacts 5 346 (0 ∷ 346 ∷ []) (theImage 0)
+          compacts 0 2 346 (0 ∷ 346 ∷ []) (theImage 0)
+          ∷ compacts 0 5 346 (0 ∷ 346 ∷ []) (theImage 0)
           ∷ judges 0 (damaged 346 ((8, 102) ∷ [])) 2
           ∷ [];
     }
@@ -96,8 +96,8 @@ rows =
           ∷ 1 ∷ 3 ∷ 1 ∷ 5 ∷ 1 ∷ 5 ∷ 44 ∷ 0 ∷ 348 ∷ 0 ∷ 2 ∷ 57102 ∷ [])
           ∷ [];
       cases =
-          compacts 3 340 (0 ∷ 340 ∷ []) (theImage 0)
-          ∷ compacts 8 343 (0 ∷ 340 ∷ []) (theImage 0)
+          compacts 0 3 340 (0 ∷ 340 ∷ []) (theImage 0)
+          ∷ compacts 0 8 343 (0 ∷ 340 ∷ []) (theImage 0)
           ∷ writes (5 ∷ 65535 ∷ 1 ∷ 2 ∷ 1 ∷ 1 ∷ []) 12 353 (0 ∷ 348 ∷ []) (theImage 1)
           ∷ [];
     }
@@ -120,8 +120,8 @@ rows =
           ∷ 3 ∷ 3 ∷ 0 ∷ 4 ∷ 1 ∷ 5 ∷ 2 ∷ 6 ∷ 3 ∷ 3 ∷ 1 ∷ 0 ∷ 2 ∷ 7 ∷ 3 ∷ 1 ∷ 112 ∷ 0 ∷ 428 ∷ 0 ∷ 2 ∷ 12447 ∷ [])
           ∷ [];
       cases =
-          compacts 2 392 (0 ∷ 392 ∷ []) (theImage 0)
-          ∷ compacts 1 427 (0 ∷ 424 ∷ []) (theImage 1)
+          compacts 0 2 392 (0 ∷ 392 ∷ []) (theImage 0)
+          ∷ compacts 0 1 427 (0 ∷ 424 ∷ []) (theImage 1)
           ∷ writes (1 ∷ 65535 ∷ 65535 ∷ 4 ∷ 5 ∷ 65535 ∷ 1 ∷ 5 ∷ []) 16 430 (0 ∷ 428 ∷ []) (theImage 2)
           ∷ [];
     }
@@ -132,7 +132,7 @@ rows =
       judged = 7;
       images = [];
       cases =
-          compacts 3 400 (7 ∷ 0 ∷ []) nothing
+          compacts 0 3 400 (7 ∷ 0 ∷ []) nothing
           ∷ writes (65534 ∷ []) 2 12 (7 ∷ 0 ∷ []) nothing
           ∷ [];
     }

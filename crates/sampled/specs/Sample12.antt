@@ -15,13 +15,13 @@ rows =
           ∷ (3 ∷ 1 ∷ 1 ∷ 1 ∷ 3 ∷ 0 ∷ 47538 ∷ 730 ∷ 0 ∷ 2 ∷ 1 ∷ 65535 ∷ 1 ∷ 65535 ∷ 1 ∷ 0 ∷ 2 ∷ 0 ∷ 0 ∷ 0 ∷ 0 ∷ 24 ∷ 0 ∷ 310 ∷ 0 ∷ 0 ∷ 16917 ∷ [])
           ∷ [];
       cases =
-          compacts 1 312 (0 ∷ 310 ∷ []) (theImage 0)
-          ∷ compacts 2 310 (0 ∷ 310 ∷ []) (theImage 0)
-          ∷ compacts 3 310 (0 ∷ 310 ∷ []) (theImage 0)
-          ∷ compacts 0 310 (0 ∷ 310 ∷ []) (theImage 0)
-          ∷ compacts 65535 316 (0 ∷ 310 ∷ []) (theImage 0)
-          ∷ compacts 10 317 (0 ∷ 310 ∷ []) (theImage 0)
-          ∷ compacts 2 9 (16 ∷ 0 ∷ []) nothing
+          compacts 0 1 312 (0 ∷ 310 ∷ []) (theImage 0)
+          ∷ compacts 0 2 310 (0 ∷ 310 ∷ []) (theImage 0)
+          ∷ compacts 0 3 310 (0 ∷ 310 ∷ []) (theImage 0)
+          ∷ compacts 0 0 310 (0 ∷ 310 ∷ []) (theImage 0)
+          ∷ compacts 0 65535 316 (0 ∷ 310 ∷ []) (theImage 0)
+          ∷ compacts 0 10 317 (0 ∷ 310 ∷ []) (theImage 0)
+          ∷ compacts 0 2 9 (16 ∷ 0 ∷ []) nothing
           ∷ writes (2 ∷ 65535 ∷ 65535 ∷ []) 6 314 (0 ∷ 310 ∷ []) (theImage 1)
           ∷ writes (65535 ∷ 65535 ∷ 0 ∷ []) 6 84 (16 ∷ 0 ∷ []) nothing
           ∷ writes (0 ∷ 2 ∷ 2 ∷ []) 6 3 (11 ∷ 0 ∷ []) nothing
@@ -43,8 +43,8 @@ rows =
           ∷ 1 ∷ 2 ∷ 4 ∷ 3 ∷ 2 ∷ 3 ∷ 52 ∷ 0 ∷ 344 ∷ 0 ∷ 1 ∷ 25403 ∷ [])
           ∷ [];
       cases =
-          compacts 1 368 (0 ∷ 368 ∷ []) (theImage 0)
-          ∷ compacts 2 350 (0 ∷ 344 ∷ []) (theImage 1)
+          compacts 0 1 368 (0 ∷ 368 ∷ []) (theImage 0)
+          ∷ compacts 0 2 350 (0 ∷ 344 ∷ []) (theImage 1)
           ∷ judges 1 (damaged 344 ((281, 243) ∷ [])) 5
           ∷ [];
     }
@@ -58,8 +58,8 @@ rows =
           ∷ 3 ∷ 36 ∷ 0 ∷ 334 ∷ 0 ∷ 1 ∷ 58076 ∷ [])
           ∷ [];
       cases =
-          compacts 3 339 (0 ∷ 334 ∷ []) (theImage 0)
-          ∷ compacts 65535 333 (16 ∷ 0 ∷ []) nothing
+          compacts 0 3 339 (0 ∷ 334 ∷ []) (theImage 0)
+          ∷ compacts 0 65535 333 (16 ∷ 0 ∷ []) nothing
           ∷ scans 0 whole 5 (74 ∷ 47 ∷ 243 ∷ 155 ∷ 144 ∷ 105 ∷ 203 ∷ []) 0 (14 ∷ 0 ∷ 0 ∷ 0 ∷ 0 ∷ []) nothing
           ∷ [];
     }
@@ -73,8 +73,8 @@ rows =
           ∷ 3 ∷ 0 ∷ 1 ∷ 0 ∷ 5 ∷ 0 ∷ 5 ∷ 36 ∷ 0 ∷ 340 ∷ 0 ∷ 0 ∷ 65115 ∷ [])
           ∷ [];
       cases =
-          compacts 3 340 (0 ∷ 340 ∷ []) (theImage 0)
-          ∷ compacts 9 290 (16 ∷ 0 ∷ []) nothing
+          compacts 0 3 340 (0 ∷ 340 ∷ []) (theImage 0)
+          ∷ compacts 0 9 290 (16 ∷ 0 ∷ []) nothing
           ∷ judges 0 (damaged 340 ([])) 0
           ∷ [];
     }
@@ -91,8 +91,8 @@ rows =
           ∷ 0 ∷ 1 ∷ 2 ∷ 4 ∷ 3 ∷ 5 ∷ 1 ∷ 5 ∷ 2 ∷ 3 ∷ 4 ∷ 2 ∷ 2 ∷ 1 ∷ 120 ∷ 0 ∷ 430 ∷ 0 ∷ 2 ∷ 50289 ∷ [])
           ∷ [];
       cases =
-          compacts 3 433 (0 ∷ 430 ∷ []) (theImage 0)
-          ∷ compacts 9 421 (16 ∷ 0 ∷ []) nothing
+          compacts 0 3 433 (0 ∷ 430 ∷ []) (theImage 0)
+          ∷ compacts 0 9 421 (16 ∷ 0 ∷ []) nothing
           ∷ expands 0 whole 70 (16 ∷ 0 ∷ []) nothing
           ∷ [];
     }
@@ -108,8 +108,8 @@ rows =
           ∷ 57782 ∷ [])
           ∷ [];
       cases =
-          compacts 1 320 (0 ∷ 320 ∷ []) (theImage 0)
-          ∷ compacts 1 327 (0 ∷ 320 ∷ []) (theImage 0)
+          compacts 0 1 320 (0 ∷ 320 ∷ []) (theImage 0)
+          ∷ compacts 0 1 327 (0 ∷ 320 ∷ []) (theImage 0)
           ∷ writes (3 ∷ 3 ∷ 65535 ∷ 65535 ∷ []) 8 324 (0 ∷ 316 ∷ []) (theImage 1)
           ∷ [];
     }
@@ -129,8 +129,8 @@ rows =
           ∷ 8 ∷ 3 ∷ 6 ∷ 0 ∷ 4 ∷ 1 ∷ 7 ∷ 2 ∷ 3 ∷ 3 ∷ 6 ∷ 0 ∷ 8 ∷ 1 ∷ 8 ∷ 2 ∷ 8 ∷ 3 ∷ 6 ∷ 1 ∷ 8 ∷ 108 ∷ 0 ∷ 436 ∷ 0 ∷ 2 ∷ 28690 ∷ [])
           ∷ [];
       cases =
-          compacts 2 440 (0 ∷ 440 ∷ []) (theImage 0)
-          ∷ compacts 3 436 (0 ∷ 436 ∷ []) (theImage 1)
+          compacts 0 2 440 (0 ∷ 440 ∷ []) (theImage 0)
+          ∷ compacts 0 3 436 (0 ∷ 436 ∷ []) (theImage 1)
           ∷ scans 1 (damaged 436 ((61, 167) ∷ [])) 2 ([]) 0 (5 ∷ 0 ∷ 0 ∷ 0 ∷ 0 ∷ []) nothing
           ∷ [];
     }
@@ -141,7 +141,7 @@ rows =
       judged = 10;
       images = [];
       cases =
-          compacts 2 13 (10 ∷ 0 ∷ []) nothing
+          compacts 0 2 13 (10 ∷ 0 ∷ []) nothing
           ∷ writes (2 ∷ []) 2 400 (10 ∷ 0 ∷ []) nothing
           ∷ [];
     }

@@ -14,8 +14,8 @@ rows =
           (1 ∷ 1 ∷ 0 ∷ 0 ∷ 1 ∷ 0 ∷ 0 ∷ 65535 ∷ 1 ∷ 0 ∷ 0 ∷ 16 ∷ 0 ∷ 290 ∷ 0 ∷ 0 ∷ 65225 ∷ [])
           ∷ [];
       cases =
-          compacts 2 290 (0 ∷ 290 ∷ []) (theImage 0)
-          ∷ compacts 7 139 (16 ∷ 0 ∷ []) nothing
+          compacts 0 2 290 (0 ∷ 290 ∷ []) (theImage 0)
+          ∷ compacts 0 7 139 (16 ∷ 0 ∷ []) nothing
           ∷ judges 0 (damaged 290 ((6, 1) ∷ (288, 200) ∷ [])) 13
           ∷ [];
     }
@@ -30,8 +30,8 @@ rows =
           ∷ 59787 ∷ [])
           ∷ [];
       cases =
-          compacts 1 308 (0 ∷ 308 ∷ []) (theImage 0)
-          ∷ compacts 3 308 (0 ∷ 308 ∷ []) (theImage 0)
+          compacts 0 1 308 (0 ∷ 308 ∷ []) (theImage 0)
+          ∷ compacts 0 3 308 (0 ∷ 308 ∷ []) (theImage 0)
           ∷ writes (65535 ∷ 65535 ∷ []) 4 318 (0 ∷ 316 ∷ []) (theImage 1)
           ∷ [];
     }
@@ -45,8 +45,8 @@ rows =
           ∷ 0 ∷ 0 ∷ 9356 ∷ [])
           ∷ [];
       cases =
-          compacts 3 329 (0 ∷ 322 ∷ []) (theImage 0)
-          ∷ compacts 1 322 (0 ∷ 322 ∷ []) (theImage 0)
+          compacts 0 3 329 (0 ∷ 322 ∷ []) (theImage 0)
+          ∷ compacts 0 1 322 (0 ∷ 322 ∷ []) (theImage 0)
           ∷ scans 0 whole 1 (21 ∷ 226 ∷ 5 ∷ 211 ∷ 204 ∷ 142 ∷ []) 0 (0 ∷ 6 ∷ 1 ∷ 0 ∷ 0 ∷ []) nothing
           ∷ [];
     }
@@ -60,8 +60,8 @@ rows =
           ∷ 2 ∷ 2 ∷ 44 ∷ 0 ∷ 336 ∷ 0 ∷ 1 ∷ 2141 ∷ [])
           ∷ [];
       cases =
-          compacts 2 341 (0 ∷ 336 ∷ []) (theImage 0)
-          ∷ compacts 65535 327 (16 ∷ 0 ∷ []) nothing
+          compacts 0 2 341 (0 ∷ 336 ∷ []) (theImage 0)
+          ∷ compacts 0 65535 327 (16 ∷ 0 ∷ []) nothing
           ∷ judges 0 (damaged 336 ((332, 2) ∷ (334, 92) ∷ [])) 13
           ∷ [];
     }
@@ -75,8 +75,8 @@ rows =
           ∷ 1 ∷ 4 ∷ 2 ∷ 4 ∷ 3 ∷ 2 ∷ 4 ∷ 0 ∷ 2 ∷ 3 ∷ 56 ∷ 0 ∷ 354 ∷ 0 ∷ 1 ∷ 15692 ∷ [])
           ∷ [];
       cases =
-          compacts 3 360 (0 ∷ 354 ∷ []) (theImage 0)
-          ∷ compacts 0 409 (16 ∷ 0 ∷ []) nothing
+          compacts 0 3 360 (0 ∷ 354 ∷ []) (theImage 0)
+          ∷ compacts 0 0 409 (16 ∷ 0 ∷ []) nothing
           ∷ writes (65535 ∷ 4 ∷ 1 ∷ 65534 ∷ 65535 ∷ []) 10 2 (8 ∷ 0 ∷ []) nothing
           ∷ [];
     }
@@ -90,8 +90,8 @@ rows =
           ∷ 0 ∷ 332 ∷ 0 ∷ 1 ∷ 34556 ∷ [])
           ∷ [];
       cases =
-          compacts 3 332 (0 ∷ 332 ∷ []) (theImage 0)
-          ∷ compacts 65535 147 (16 ∷ 0 ∷ []) nothing
+          compacts 0 3 332 (0 ∷ 332 ∷ []) (theImage 0)
+          ∷ compacts 0 65535 147 (16 ∷ 0 ∷ []) nothing
           ∷ scans 0 whole 1 (90 ∷ []) 0 (0 ∷ 1 ∷ 2 ∷ 0 ∷ 0 ∷ []) nothing
           ∷ [];
     }
@@ -105,8 +105,8 @@ rows =
           ∷ 65535 ∷ 1 ∷ 65535 ∷ 1 ∷ 0 ∷ 0 ∷ 0 ∷ 0 ∷ 0 ∷ 0 ∷ 0 ∷ 0 ∷ 0 ∷ 0 ∷ 0 ∷ 0 ∷ 0 ∷ 0 ∷ 0 ∷ 4 ∷ 44 ∷ 0 ∷ 360 ∷ 0 ∷ 0 ∷ 54156 ∷ [])
           ∷ [];
       cases =
-          compacts 2 360 (0 ∷ 360 ∷ []) (theImage 0)
-          ∷ compacts 1 363 (0 ∷ 360 ∷ []) (theImage 0)
+          compacts 0 2 360 (0 ∷ 360 ∷ []) (theImage 0)
+          ∷ compacts 0 1 363 (0 ∷ 360 ∷ []) (theImage 0)
           ∷ scans 0 whole 3 (77 ∷ 191 ∷ 216 ∷ 248 ∷ 145 ∷ 168 ∷ 223 ∷ 57 ∷ []) 2 (0 ∷ 8 ∷ 0 ∷ 0 ∷ 0 ∷ []) nothing
           ∷ [];
     }
@@ -117,7 +117,7 @@ rows =
       judged = 6;
       images = [];
       cases =
-          compacts 0 400 (6 ∷ 0 ∷ []) nothing
+          compacts 0 0 400 (6 ∷ 0 ∷ []) nothing
           ∷ writes (5 ∷ 3 ∷ 1 ∷ 5 ∷ 65534 ∷ 65535 ∷ []) 12 400 (6 ∷ 0 ∷ []) nothing
           ∷ [];
     }

@@ -16,8 +16,8 @@ rows =
           ∷ (3 ∷ 4 ∷ 1 ∷ 1 ∷ 4 ∷ 0 ∷ 0 ∷ 49918 ∷ 0 ∷ 65535 ∷ 4 ∷ 0 ∷ 0 ∷ 0 ∷ 0 ∷ 0 ∷ 1 ∷ 1 ∷ 1 ∷ 2 ∷ 2 ∷ 3 ∷ 0 ∷ 28 ∷ 0 ∷ 314 ∷ 0 ∷ 1 ∷ 64077 ∷ [])
           ∷ [];
       cases =
-          compacts 1 333 (0 ∷ 330 ∷ []) (theImage 0)
-          ∷ compacts 65535 319 (0 ∷ 314 ∷ []) (theImage 1)
+          compacts 0 1 333 (0 ∷ 330 ∷ []) (theImage 0)
+          ∷ compacts 0 65535 319 (0 ∷ 314 ∷ []) (theImage 1)
           ∷ judges 1 (damaged 314 ((300, 2) ∷ (312, 75) ∷ [])) 0
           ∷ [];
     }
@@ -39,13 +39,13 @@ rows =
           ∷ 40 ∷ 0 ∷ 332 ∷ 0 ∷ 2 ∷ 18298 ∷ [])
           ∷ [];
       cases =
-          compacts 1 347 (0 ∷ 344 ∷ []) (theImage 0)
-          ∷ compacts 2 336 (0 ∷ 336 ∷ []) (theImage 1)
-          ∷ compacts 3 328 (0 ∷ 328 ∷ []) (theImage 2)
-          ∷ compacts 0 357 (0 ∷ 352 ∷ []) (theImage 3)
-          ∷ compacts 65535 332 (0 ∷ 328 ∷ []) (theImage 2)
-          ∷ compacts 4 328 (0 ∷ 328 ∷ []) (theImage 2)
-          ∷ compacts 65535 34 (16 ∷ 0 ∷ []) nothing
+          compacts 0 1 347 (0 ∷ 344 ∷ []) (theImage 0)
+          ∷ compacts 0 2 336 (0 ∷ 336 ∷ []) (theImage 1)
+          ∷ compacts 0 3 328 (0 ∷ 328 ∷ []) (theImage 2)
+          ∷ compacts 0 0 357 (0 ∷ 352 ∷ []) (theImage 3)
+          ∷ compacts 0 65535 332 (0 ∷ 328 ∷ []) (theImage 2)
+          ∷ compacts 0 4 328 (0 ∷ 328 ∷ []) (theImage 2)
+          ∷ compacts 0 65535 34 (16 ∷ 0 ∷ []) nothing
           ∷ writes (1 ∷ 65535 ∷ 0 ∷ 0 ∷ []) 8 340 (0 ∷ 332 ∷ []) (theImage 4)
           ∷ writes (2 ∷ 0 ∷ 3 ∷ 65535 ∷ []) 8 40 (16 ∷ 0 ∷ []) nothing
           ∷ writes (65535 ∷ 65534 ∷ 0 ∷ 65535 ∷ []) 8 7 (8 ∷ 0 ∷ []) nothing
@@ -64,8 +64,8 @@ rows =
           ∷ 2 ∷ 1 ∷ 0 ∷ 3 ∷ 1 ∷ 3 ∷ 2 ∷ 4 ∷ 0 ∷ 2 ∷ 1 ∷ 3 ∷ 2 ∷ 0 ∷ 1 ∷ 0 ∷ 64 ∷ 0 ∷ 362 ∷ 0 ∷ 1 ∷ 59629 ∷ [])
           ∷ [];
       cases =
-          compacts 2 362 (0 ∷ 362 ∷ []) (theImage 0)
-          ∷ compacts 4 368 (0 ∷ 362 ∷ []) (theImage 0)
+          compacts 0 2 362 (0 ∷ 362 ∷ []) (theImage 0)
+          ∷ compacts 0 4 368 (0 ∷ 362 ∷ []) (theImage 0)
           ∷ scans 0 whole 0 (75 ∷ 182 ∷ 44 ∷ 253 ∷ 165 ∷ []) 1 (0 ∷ 5 ∷ 4 ∷ 0 ∷ 1 ∷ []) nothing
           ∷ [];
     }
@@ -81,8 +81,8 @@ rows =
           ∷ 0 ∷ 0 ∷ 1 ∷ 2 ∷ 2 ∷ 5 ∷ 1 ∷ 4 ∷ 40 ∷ 0 ∷ 344 ∷ 0 ∷ 1 ∷ 49235 ∷ [])
           ∷ [];
       cases =
-          compacts 1 359 (0 ∷ 356 ∷ []) (theImage 0)
-          ∷ compacts 3 344 (0 ∷ 344 ∷ []) (theImage 1)
+          compacts 0 1 359 (0 ∷ 356 ∷ []) (theImage 0)
+          ∷ compacts 0 3 344 (0 ∷ 344 ∷ []) (theImage 1)
           ∷ expands 1 whole 310 (0 ∷ 310 ∷ []) (theTable whole)
           ∷ [];
     }
@@ -96,8 +96,8 @@ rows =
           ∷ 1 ∷ 0 ∷ 4 ∷ 0 ∷ 6 ∷ 0 ∷ 4 ∷ 0 ∷ 5 ∷ 0 ∷ 1 ∷ 0 ∷ 6 ∷ 0 ∷ 4 ∷ 40 ∷ 0 ∷ 350 ∷ 0 ∷ 0 ∷ 56706 ∷ [])
           ∷ [];
       cases =
-          compacts 3 355 (0 ∷ 350 ∷ []) (theImage 0)
-          ∷ compacts 0 353 (0 ∷ 350 ∷ []) (theImage 0)
+          compacts 0 3 355 (0 ∷ 350 ∷ []) (theImage 0)
+          ∷ compacts 0 0 353 (0 ∷ 350 ∷ []) (theImage 0)
           ∷ judges 0 (damaged 350 ((330, 1) ∷ (348, 129) ∷ [])) 9
           ∷ [];
     }
@@ -111,8 +111,8 @@ rows =
           ∷ 0 ∷ 3 ∷ 2 ∷ 3 ∷ 0 ∷ 48 ∷ 0 ∷ 340 ∷ 0 ∷ 1 ∷ 65114 ∷ [])
           ∷ [];
       cases =
-          compacts 1 340 (0 ∷ 340 ∷ []) (theImage 0)
-          ∷ compacts 11 342 (0 ∷ 340 ∷ []) (theImage 0)
+          compacts 0 1 340 (0 ∷ 340 ∷ []) (theImage 0)
+          ∷ compacts 0 11 342 (0 ∷ 340 ∷ []) (theImage 0)
           ∷ judges 0 (damaged 340 ((328, 83) ∷ (329, 1) ∷ [])) 4
           ∷ [];
     }
@@ -130,8 +130,8 @@ rows =
           ∷ 3 ∷ 1 ∷ 5 ∷ 2 ∷ 4 ∷ 3 ∷ 1 ∷ 132 ∷ 0 ∷ 466 ∷ 0 ∷ 2 ∷ 5374 ∷ [])
           ∷ [];
       cases =
-          compacts 3 466 (0 ∷ 466 ∷ []) (theImage 0)
-          ∷ compacts 1 186 (16 ∷ 0 ∷ []) nothing
+          compacts 0 3 466 (0 ∷ 466 ∷ []) (theImage 0)
+          ∷ compacts 0 1 186 (16 ∷ 0 ∷ []) nothing
           ∷ scans 0 whole 4 (192 ∷ []) 0 (0 ∷ 1 ∷ 8 ∷ 0 ∷ 0 ∷ []) nothing
           ∷ [];
     }
@@ -142,7 +142,7 @@ rows =
       judged = 7;
       images = [];
       cases =
-          compacts 3 400 (7 ∷ 0 ∷ []) nothing
+          compacts 0 3 400 (7 ∷ 0 ∷ []) nothing
           ∷ writes (1 ∷ 65535 ∷ 65534 ∷ []) 6 400 (7 ∷ 0 ∷ []) nothing
           ∷ [];
     }

@@ -14,8 +14,8 @@ rows =
           (1 ∷ 1 ∷ 0 ∷ 0 ∷ 1 ∷ 0 ∷ 0 ∷ 65535 ∷ 1 ∷ 0 ∷ 0 ∷ 16 ∷ 0 ∷ 290 ∷ 0 ∷ 0 ∷ 65225 ∷ [])
           ∷ [];
       cases =
-          compacts 3 290 (0 ∷ 290 ∷ []) (theImage 0)
-          ∷ compacts 1 293 (0 ∷ 290 ∷ []) (theImage 0)
+          compacts 0 3 290 (0 ∷ 290 ∷ []) (theImage 0)
+          ∷ compacts 0 1 293 (0 ∷ 290 ∷ []) (theImage 0)
           ∷ scans 0 whole 0 (213 ∷ []) 0 (0 ∷ 1 ∷ 0 ∷ 0 ∷ 0 ∷ []) nothing
           ∷ [];
     }
@@ -29,8 +29,8 @@ rows =
           ∷ 0 ∷ 0 ∷ 30047 ∷ [])
           ∷ [];
       cases =
-          compacts 1 325 (0 ∷ 324 ∷ []) (theImage 0)
-          ∷ compacts 1 328 (0 ∷ 324 ∷ []) (theImage 0)
+          compacts 0 1 325 (0 ∷ 324 ∷ []) (theImage 0)
+          ∷ compacts 0 1 328 (0 ∷ 324 ∷ []) (theImage 0)
           ∷ scans 0 whole 0 (53 ∷ 253 ∷ 19 ∷ 255 ∷ []) 16 (0 ∷ 4 ∷ 0 ∷ 2 ∷ 0 ∷ []) (these (1 ∷ 0 ∷ 37392 ∷ 3 ∷ 0 ∷ 37392 ∷ []))
           ∷ [];
     }
@@ -45,8 +45,8 @@ rows =
           ∷ (3 ∷ 3 ∷ 1 ∷ 1 ∷ 3 ∷ 0 ∷ 4210 ∷ 26726 ∷ 0 ∷ 65535 ∷ 3 ∷ 0 ∷ 0 ∷ 0 ∷ 0 ∷ 0 ∷ 1 ∷ 1 ∷ 0 ∷ 2 ∷ 2 ∷ 24 ∷ 0 ∷ 310 ∷ 0 ∷ 1 ∷ 28333 ∷ [])
           ∷ [];
       cases =
-          compacts 1 322 (0 ∷ 322 ∷ []) (theImage 0)
-          ∷ compacts 8 315 (0 ∷ 310 ∷ []) (theImage 1)
+          compacts 0 1 322 (0 ∷ 322 ∷ []) (theImage 0)
+          ∷ compacts 0 8 315 (0 ∷ 310 ∷ []) (theImage 1)
           ∷ expands 1 whole 204 (16 ∷ 0 ∷ []) nothing
           ∷ [];
     }
@@ -62,8 +62,8 @@ rows =
           ∷ 2 ∷ 1 ∷ 3 ∷ 2 ∷ 0 ∷ 2 ∷ 1 ∷ 3 ∷ 2 ∷ 0 ∷ 3 ∷ 3 ∷ 0 ∷ 3 ∷ 1 ∷ 3 ∷ 2 ∷ 3 ∷ 3 ∷ 3 ∷ 76 ∷ 0 ∷ 368 ∷ 0 ∷ 0 ∷ 63190 ∷ [])
           ∷ [];
       cases =
-          compacts 1 356 (0 ∷ 356 ∷ []) (theImage 0)
-          ∷ compacts 0 372 (0 ∷ 368 ∷ []) (theImage 1)
+          compacts 0 1 356 (0 ∷ 356 ∷ []) (theImage 0)
+          ∷ compacts 0 0 372 (0 ∷ 368 ∷ []) (theImage 1)
           ∷ scans 1 (damaged 368 ((8, 3) ∷ (366, 227) ∷ [])) 1 (21 ∷ 154 ∷ 237 ∷ 251 ∷ 251 ∷ 188 ∷ 10 ∷ []) 0 (2 ∷ 0 ∷ 0 ∷ 0 ∷ 0 ∷ []) nothing
           ∷ [];
     }
@@ -80,8 +80,8 @@ rows =
           ∷ 1 ∷ 10995 ∷ [])
           ∷ [];
       cases =
-          compacts 1 395 (0 ∷ 390 ∷ []) (theImage 0)
-          ∷ compacts 1 390 (0 ∷ 390 ∷ []) (theImage 0)
+          compacts 0 1 395 (0 ∷ 390 ∷ []) (theImage 0)
+          ∷ compacts 0 1 390 (0 ∷ 390 ∷ []) (theImage 0)
           ∷ scans 0 whole 3 (69 ∷ 129 ∷ 62 ∷ 193 ∷ 199 ∷ []) 0 (0 ∷ 5 ∷ 2 ∷ 0 ∷ 0 ∷ []) nothing
           ∷ [];
     }
@@ -95,8 +95,8 @@ rows =
           ∷ 0 ∷ 328 ∷ 0 ∷ 1 ∷ 40936 ∷ [])
           ∷ [];
       cases =
-          compacts 2 328 (0 ∷ 328 ∷ []) (theImage 0)
-          ∷ compacts 3 328 (0 ∷ 328 ∷ []) (theImage 0)
+          compacts 0 2 328 (0 ∷ 328 ∷ []) (theImage 0)
+          ∷ compacts 0 3 328 (0 ∷ 328 ∷ []) (theImage 0)
           ∷ scans 0 whole 4 ([]) 1 (0 ∷ 0 ∷ 4 ∷ 0 ∷ 0 ∷ []) nothing
           ∷ [];
     }
@@ -113,8 +113,8 @@ rows =
           ∷ 2 ∷ 0 ∷ 3 ∷ 7 ∷ 0 ∷ 4 ∷ 0 ∷ 2 ∷ 1 ∷ 3 ∷ 2 ∷ 7 ∷ 3 ∷ 7 ∷ 1 ∷ 5 ∷ 3 ∷ 3 ∷ 108 ∷ 0 ∷ 430 ∷ 0 ∷ 1 ∷ 27397 ∷ [])
           ∷ [];
       cases =
-          compacts 1 430 (0 ∷ 430 ∷ []) (theImage 0)
-          ∷ compacts 1 430 (0 ∷ 430 ∷ []) (theImage 0)
+          compacts 0 1 430 (0 ∷ 430 ∷ []) (theImage 0)
+          ∷ compacts 0 1 430 (0 ∷ 430 ∷ []) (theImage 0)
           ∷ writes (65535 ∷ 65535 ∷ 65535 ∷ 65535 ∷ 65535 ∷ 2 ∷ 65535 ∷ 65534 ∷ 65535 ∷ []) 18 5 (8 ∷ 0 ∷ []) nothing
           ∷ [];
     }
@@ -125,7 +125,7 @@ rows =
       judged = 3;
       images = [];
       cases =
-          compacts 2 7 (3 ∷ 0 ∷ []) nothing
+          compacts 0 2 7 (3 ∷ 0 ∷ []) nothing
           ∷ writes (65534 ∷ 0 ∷ 0 ∷ 2 ∷ []) 8 400 (3 ∷ 0 ∷ []) nothing
           ∷ [];
     }

@@ -16,8 +16,8 @@ rows =
           ∷ (3 ∷ 2 ∷ 0 ∷ 1 ∷ 2 ∷ 0 ∷ 40942 ∷ 32195 ∷ 0 ∷ 65535 ∷ 2 ∷ 0 ∷ 0 ∷ 0 ∷ 0 ∷ 0 ∷ 0 ∷ 1 ∷ 2 ∷ 20 ∷ 0 ∷ 306 ∷ 0 ∷ 1 ∷ 28552 ∷ [])
           ∷ [];
       cases =
-          compacts 1 314 (0 ∷ 314 ∷ []) (theImage 0)
-          ∷ compacts 3 306 (0 ∷ 306 ∷ []) (theImage 1)
+          compacts 0 1 314 (0 ∷ 314 ∷ []) (theImage 0)
+          ∷ compacts 0 3 306 (0 ∷ 306 ∷ []) (theImage 1)
           ∷ writes (65535 ∷ 2 ∷ 65535 ∷ []) 6 313 (16 ∷ 0 ∷ []) nothing
           ∷ [];
     }
@@ -41,13 +41,13 @@ rows =
           ∷ 0 ∷ 1 ∷ 35 ∷ [])
           ∷ [];
       cases =
-          compacts 1 382 (0 ∷ 380 ∷ []) (theImage 0)
-          ∷ compacts 2 368 (0 ∷ 368 ∷ []) (theImage 1)
-          ∷ compacts 3 368 (0 ∷ 368 ∷ []) (theImage 1)
-          ∷ compacts 0 403 (0 ∷ 400 ∷ []) (theImage 2)
-          ∷ compacts 65535 368 (0 ∷ 368 ∷ []) (theImage 1)
-          ∷ compacts 5 375 (0 ∷ 368 ∷ []) (theImage 1)
-          ∷ compacts 2 367 (16 ∷ 0 ∷ []) nothing
+          compacts 0 1 382 (0 ∷ 380 ∷ []) (theImage 0)
+          ∷ compacts 0 2 368 (0 ∷ 368 ∷ []) (theImage 1)
+          ∷ compacts 0 3 368 (0 ∷ 368 ∷ []) (theImage 1)
+          ∷ compacts 0 0 403 (0 ∷ 400 ∷ []) (theImage 2)
+          ∷ compacts 0 65535 368 (0 ∷ 368 ∷ []) (theImage 1)
+          ∷ compacts 0 5 375 (0 ∷ 368 ∷ []) (theImage 1)
+          ∷ compacts 0 2 367 (16 ∷ 0 ∷ []) nothing
           ∷ writes (3 ∷ 65535 ∷ 65535 ∷ 1 ∷ []) 8 388 (0 ∷ 388 ∷ []) (theImage 3)
           ∷ writes (2 ∷ 65535 ∷ 1 ∷ 0 ∷ []) 8 362 (16 ∷ 0 ∷ []) nothing
           ∷ writes (3 ∷ 3 ∷ 65535 ∷ 2 ∷ 0 ∷ []) 10 1 (8 ∷ 0 ∷ []) nothing
@@ -69,8 +69,8 @@ rows =
           ∷ 390 ∷ 0 ∷ 0 ∷ 54932 ∷ [])
           ∷ [];
       cases =
-          compacts 1 375 (0 ∷ 370 ∷ []) (theImage 0)
-          ∷ compacts 2 2 (16 ∷ 0 ∷ []) nothing
+          compacts 0 1 375 (0 ∷ 370 ∷ []) (theImage 0)
+          ∷ compacts 0 2 2 (16 ∷ 0 ∷ []) nothing
           ∷ writes (2 ∷ 4 ∷ 65535 ∷ 65535 ∷ 65535 ∷ []) 10 397 (0 ∷ 390 ∷ []) (theImage 1)
           ∷ [];
     }
@@ -86,8 +86,8 @@ rows =
           ∷ 3 ∷ 4 ∷ 5 ∷ 32 ∷ 0 ∷ 336 ∷ 0 ∷ 1 ∷ 28739 ∷ [])
           ∷ [];
       cases =
-          compacts 3 339 (0 ∷ 336 ∷ []) (theImage 0)
-          ∷ compacts 65535 84 (16 ∷ 0 ∷ []) nothing
+          compacts 0 3 339 (0 ∷ 336 ∷ []) (theImage 0)
+          ∷ compacts 0 65535 84 (16 ∷ 0 ∷ []) nothing
           ∷ judges 0 (damaged 336 ((302, 5) ∷ (334, 62) ∷ [])) 8
           ∷ [];
     }
@@ -101,8 +101,8 @@ rows =
           ∷ 1 ∷ 5 ∷ 0 ∷ 1 ∷ 1 ∷ 3 ∷ 0 ∷ 1 ∷ 1 ∷ 3 ∷ 0 ∷ 1 ∷ 1 ∷ 3 ∷ 44 ∷ 0 ∷ 354 ∷ 0 ∷ 1 ∷ 56090 ∷ [])
           ∷ [];
       cases =
-          compacts 1 355 (0 ∷ 354 ∷ []) (theImage 0)
-          ∷ compacts 1 354 (0 ∷ 354 ∷ []) (theImage 0)
+          compacts 0 1 355 (0 ∷ 354 ∷ []) (theImage 0)
+          ∷ compacts 0 1 354 (0 ∷ 354 ∷ []) (theImage 0)
           ∷ scans 0 (damaged 354 ((294, 2) ∷ (295, 0) ∷ (352, 24) ∷ [])) 5 (156 ∷ 69 ∷ 244 ∷ 76 ∷ 127 ∷ 128 ∷ []) 0 (12 ∷ 0 ∷ 0 ∷ 0 ∷ 0 ∷ []) nothing
           ∷ [];
     }
@@ -116,8 +116,8 @@ rows =
           ∷ 328 ∷ 0 ∷ 1 ∷ 58966 ∷ [])
           ∷ [];
       cases =
-          compacts 3 328 (0 ∷ 328 ∷ []) (theImage 0)
-          ∷ compacts 3 331 (0 ∷ 328 ∷ []) (theImage 0)
+          compacts 0 3 328 (0 ∷ 328 ∷ []) (theImage 0)
+          ∷ compacts 0 3 331 (0 ∷ 328 ∷ []) (theImage 0)
           ∷ judges 0 (damaged 328 ((310, 4) ∷ [])) 5
           ∷ [];
     }
@@ -134,8 +134,8 @@ rows =
           ∷ 5 ∷ 1 ∷ 4 ∷ 0 ∷ 2 ∷ 1 ∷ 10 ∷ 0 ∷ 2 ∷ 1 ∷ 2 ∷ 0 ∷ 0 ∷ 1 ∷ 2 ∷ 0 ∷ 8 ∷ 1 ∷ 6 ∷ 84 ∷ 0 ∷ 418 ∷ 0 ∷ 1 ∷ 34042 ∷ [])
           ∷ [];
       cases =
-          compacts 1 426 (0 ∷ 418 ∷ []) (theImage 0)
-          ∷ compacts 11 418 (0 ∷ 418 ∷ []) (theImage 0)
+          compacts 0 1 426 (0 ∷ 418 ∷ []) (theImage 0)
+          ∷ compacts 0 11 418 (0 ∷ 418 ∷ []) (theImage 0)
           ∷ scans 0 whole 2 (86 ∷ 165 ∷ 231 ∷ []) 2 (0 ∷ 3 ∷ 10 ∷ 0 ∷ 2 ∷ []) nothing
           ∷ [];
     }
@@ -146,7 +146,7 @@ rows =
       judged = 2;
       images = [];
       cases =
-          compacts 2 400 (2 ∷ 0 ∷ []) nothing
+          compacts 0 2 400 (2 ∷ 0 ∷ []) nothing
           ∷ writes (65535 ∷ 2 ∷ 0 ∷ []) 6 5 (2 ∷ 0 ∷ []) nothing
           ∷ [];
     }

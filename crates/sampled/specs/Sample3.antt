@@ -14,8 +14,8 @@ rows =
           (1 ∷ 6 ∷ 0 ∷ 0 ∷ 6 ∷ 0 ∷ 19111 ∷ 65535 ∷ 6 ∷ 0 ∷ 0 ∷ 1 ∷ 0 ∷ 2 ∷ 0 ∷ 3 ∷ 0 ∷ 4 ∷ 0 ∷ 5 ∷ 0 ∷ 36 ∷ 0 ∷ 310 ∷ 0 ∷ 0 ∷ 302 ∷ [])
           ∷ [];
       cases =
-          compacts 1 310 (0 ∷ 310 ∷ []) (theImage 0)
-          ∷ compacts 1 309 (16 ∷ 0 ∷ []) nothing
+          compacts 0 1 310 (0 ∷ 310 ∷ []) (theImage 0)
+          ∷ compacts 0 1 309 (16 ∷ 0 ∷ []) nothing
           ∷ judges 0 (damaged 310 ((6, 1) ∷ (308, 45) ∷ [])) 13
           ∷ [];
     }
@@ -28,8 +28,8 @@ rows =
           (2 ∷ 4 ∷ 1 ∷ 1 ∷ 4 ∷ 0 ∷ 0 ∷ 58112 ∷ 65535 ∷ 4 ∷ 0 ∷ 0 ∷ 0 ∷ 1 ∷ 1 ∷ 1 ∷ 2 ∷ 0 ∷ 3 ∷ 1 ∷ 28 ∷ 0 ∷ 308 ∷ 0 ∷ 1 ∷ 3723 ∷ [])
           ∷ [];
       cases =
-          compacts 1 308 (0 ∷ 308 ∷ []) (theImage 0)
-          ∷ compacts 1 316 (0 ∷ 308 ∷ []) (theImage 0)
+          compacts 0 1 308 (0 ∷ 308 ∷ []) (theImage 0)
+          ∷ compacts 0 1 316 (0 ∷ 308 ∷ []) (theImage 0)
           ∷ writes (65535 ∷ 0 ∷ 0 ∷ []) 5 500 (8 ∷ 0 ∷ []) nothing
           ∷ [];
     }
@@ -43,8 +43,8 @@ rows =
           ∷ 3 ∷ 0 ∷ 4 ∷ 1 ∷ 52 ∷ 0 ∷ 338 ∷ 0 ∷ 1 ∷ 30514 ∷ [])
           ∷ [];
       cases =
-          compacts 1 338 (0 ∷ 338 ∷ []) (theImage 0)
-          ∷ compacts 2 338 (0 ∷ 338 ∷ []) (theImage 0)
+          compacts 0 1 338 (0 ∷ 338 ∷ []) (theImage 0)
+          ∷ compacts 0 2 338 (0 ∷ 338 ∷ []) (theImage 0)
           ∷ writes (65535 ∷ 0 ∷ 65535 ∷ []) 6 274 (16 ∷ 0 ∷ []) nothing
           ∷ [];
     }
@@ -58,8 +58,8 @@ rows =
           ∷ 35226 ∷ [])
           ∷ [];
       cases =
-          compacts 2 320 (0 ∷ 320 ∷ []) (theImage 0)
-          ∷ compacts 3 320 (0 ∷ 320 ∷ []) (theImage 0)
+          compacts 0 2 320 (0 ∷ 320 ∷ []) (theImage 0)
+          ∷ compacts 0 3 320 (0 ∷ 320 ∷ []) (theImage 0)
           ∷ scans 0 whole 0 (35 ∷ 160 ∷ 50 ∷ 197 ∷ 201 ∷ 146 ∷ 137 ∷ []) 2 (0 ∷ 7 ∷ 0 ∷ 0 ∷ 4 ∷ []) nothing
           ∷ [];
     }
@@ -78,8 +78,8 @@ rows =
           ∷ 3 ∷ 4 ∷ 2 ∷ 4 ∷ 0 ∷ 1 ∷ 4 ∷ 1 ∷ 0 ∷ 1 ∷ 2 ∷ 4 ∷ 4 ∷ 4 ∷ 60 ∷ 0 ∷ 358 ∷ 0 ∷ 1 ∷ 7454 ∷ [])
           ∷ [];
       cases =
-          compacts 1 386 (0 ∷ 382 ∷ []) (theImage 0)
-          ∷ compacts 2 358 (0 ∷ 358 ∷ []) (theImage 1)
+          compacts 0 1 386 (0 ∷ 382 ∷ []) (theImage 0)
+          ∷ compacts 0 2 358 (0 ∷ 358 ∷ []) (theImage 1)
           ∷ judges 1 (damaged 350 ([])) 3
           ∷ [];
     }
@@ -99,8 +99,8 @@ rows =
           ∷ 5 ∷ 3 ∷ 3 ∷ 4 ∷ 3 ∷ 104 ∷ 0 ∷ 408 ∷ 0 ∷ 2 ∷ 20843 ∷ [])
           ∷ [];
       cases =
-          compacts 1 420 (0 ∷ 412 ∷ []) (theImage 0)
-          ∷ compacts 1 274 (16 ∷ 0 ∷ []) nothing
+          compacts 0 1 420 (0 ∷ 412 ∷ []) (theImage 0)
+          ∷ compacts 0 1 274 (16 ∷ 0 ∷ []) nothing
           ∷ writes (4 ∷ 65535 ∷ 1 ∷ 2 ∷ 65535 ∷ 3 ∷ []) 12 408 (0 ∷ 408 ∷ []) (theImage 1)
           ∷ [];
     }
@@ -123,8 +123,8 @@ rows =
           ∷ 6 ∷ 1 ∷ 8 ∷ 2 ∷ 6 ∷ 88 ∷ 0 ∷ 410 ∷ 0 ∷ 2 ∷ 8204 ∷ [])
           ∷ [];
       cases =
-          compacts 2 401 (0 ∷ 398 ∷ []) (theImage 0)
-          ∷ compacts 3 393 (0 ∷ 390 ∷ []) (theImage 1)
+          compacts 0 2 401 (0 ∷ 398 ∷ []) (theImage 0)
+          ∷ compacts 0 3 393 (0 ∷ 390 ∷ []) (theImage 1)
           ∷ writes (6 ∷ 3 ∷ 6 ∷ 65535 ∷ 65535 ∷ 65535 ∷ 5 ∷ 6 ∷ 0 ∷ []) 18 410 (0 ∷ 410 ∷ []) (theImage 2)
           ∷ [];
     }
@@ -135,7 +135,7 @@ rows =
       judged = 6;
       images = [];
       cases =
-          compacts 3 4 (6 ∷ 0 ∷ []) nothing
+          compacts 0 3 4 (6 ∷ 0 ∷ []) nothing
           ∷ writes (65535 ∷ 0 ∷ []) 4 3 (6 ∷ 0 ∷ []) nothing
           ∷ [];
     }

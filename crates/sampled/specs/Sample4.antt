@@ -17,8 +17,8 @@ rows =
           ∷ 2 ∷ 4 ∷ 2 ∷ 4 ∷ 0 ∷ 56 ∷ 0 ∷ 342 ∷ 0 ∷ 1 ∷ 5483 ∷ [])
           ∷ [];
       cases =
-          compacts 1 342 (0 ∷ 342 ∷ []) (theImage 0)
-          ∷ compacts 2 341 (16 ∷ 0 ∷ []) nothing
+          compacts 0 1 342 (0 ∷ 342 ∷ []) (theImage 0)
+          ∷ compacts 0 2 341 (16 ∷ 0 ∷ []) nothing
           ∷ writes (2 ∷ 65535 ∷ 1 ∷ []) 6 342 (0 ∷ 342 ∷ []) (theImage 1)
           ∷ [];
     }
@@ -34,8 +34,8 @@ rows =
           ∷ 3 ∷ 2 ∷ 3 ∷ 3 ∷ 1 ∷ 44 ∷ 0 ∷ 336 ∷ 0 ∷ 1 ∷ 37380 ∷ [])
           ∷ [];
       cases =
-          compacts 3 323 (0 ∷ 320 ∷ []) (theImage 0)
-          ∷ compacts 1 336 (0 ∷ 336 ∷ []) (theImage 1)
+          compacts 0 3 323 (0 ∷ 320 ∷ []) (theImage 0)
+          ∷ compacts 0 1 336 (0 ∷ 336 ∷ []) (theImage 1)
           ∷ expands 1 whole 101 (16 ∷ 0 ∷ []) nothing
           ∷ [];
     }
@@ -59,13 +59,13 @@ rows =
           ∷ 3 ∷ 0 ∷ 4 ∷ 1 ∷ 1 ∷ 2 ∷ 3 ∷ 3 ∷ 4 ∷ 0 ∷ 3 ∷ 1 ∷ 1 ∷ 2 ∷ 3 ∷ 3 ∷ 4 ∷ 0 ∷ 3 ∷ 1 ∷ 1 ∷ 2 ∷ 2 ∷ 3 ∷ 4 ∷ 80 ∷ 0 ∷ 378 ∷ 0 ∷ 1 ∷ 11297 ∷ [])
           ∷ [];
       cases =
-          compacts 1 378 (0 ∷ 378 ∷ []) (theImage 0)
-          ∷ compacts 2 366 (0 ∷ 366 ∷ []) (theImage 1)
-          ∷ compacts 3 358 (0 ∷ 358 ∷ []) (theImage 2)
-          ∷ compacts 0 390 (0 ∷ 390 ∷ []) (theImage 3)
-          ∷ compacts 65535 360 (0 ∷ 358 ∷ []) (theImage 2)
-          ∷ compacts 8 360 (0 ∷ 358 ∷ []) (theImage 2)
-          ∷ compacts 2 77 (16 ∷ 0 ∷ []) nothing
+          compacts 0 1 378 (0 ∷ 378 ∷ []) (theImage 0)
+          ∷ compacts 0 2 366 (0 ∷ 366 ∷ []) (theImage 1)
+          ∷ compacts 0 3 358 (0 ∷ 358 ∷ []) (theImage 2)
+          ∷ compacts 0 0 390 (0 ∷ 390 ∷ []) (theImage 3)
+          ∷ compacts 0 65535 360 (0 ∷ 358 ∷ []) (theImage 2)
+          ∷ compacts 0 8 360 (0 ∷ 358 ∷ []) (theImage 2)
+          ∷ compacts 0 2 77 (16 ∷ 0 ∷ []) nothing
           ∷ writes (4 ∷ 2 ∷ 65535 ∷ 0 ∷ 65535 ∷ []) 10 383 (0 ∷ 378 ∷ []) (theImage 4)
           ∷ writes (4 ∷ 4 ∷ 4 ∷ 0 ∷ 65535 ∷ []) 10 377 (16 ∷ 0 ∷ []) nothing
           ∷ writes (4 ∷ 0 ∷ 3 ∷ 0 ∷ 65535 ∷ 0 ∷ []) 12 6 (8 ∷ 0 ∷ []) nothing
@@ -86,8 +86,8 @@ rows =
           ∷ 1 ∷ 5 ∷ 2 ∷ 1 ∷ 3 ∷ 0 ∷ 4 ∷ 1 ∷ 5 ∷ 4 ∷ 0 ∷ 0 ∷ 0 ∷ 0 ∷ 3 ∷ 1 ∷ 0 ∷ 0 ∷ 4 ∷ 5 ∷ 4 ∷ 5 ∷ 76 ∷ 0 ∷ 380 ∷ 0 ∷ 1 ∷ 27946 ∷ [])
           ∷ [];
       cases =
-          compacts 2 385 (0 ∷ 380 ∷ []) (theImage 0)
-          ∷ compacts 3 247 (16 ∷ 0 ∷ []) nothing
+          compacts 0 2 385 (0 ∷ 380 ∷ []) (theImage 0)
+          ∷ compacts 0 3 247 (16 ∷ 0 ∷ []) nothing
           ∷ writes (65535 ∷ 0 ∷ 3 ∷ 65535 ∷ 65535 ∷ 1 ∷ []) 12 411 (16 ∷ 0 ∷ []) nothing
           ∷ [];
     }
@@ -104,8 +104,8 @@ rows =
           ∷ 2 ∷ 4 ∷ 0 ∷ 0 ∷ 1 ∷ 2 ∷ 2 ∷ 1 ∷ 96 ∷ 0 ∷ 406 ∷ 0 ∷ 0 ∷ 1502 ∷ [])
           ∷ [];
       cases =
-          compacts 3 358 (0 ∷ 358 ∷ []) (theImage 0)
-          ∷ compacts 0 406 (0 ∷ 406 ∷ []) (theImage 1)
+          compacts 0 3 358 (0 ∷ 358 ∷ []) (theImage 0)
+          ∷ compacts 0 0 406 (0 ∷ 406 ∷ []) (theImage 1)
           ∷ writes (3 ∷ 4 ∷ 6 ∷ 2 ∷ 65535 ∷ 1 ∷ 65535 ∷ []) 14 8 (16 ∷ 0 ∷ []) nothing
           ∷ [];
     }
@@ -119,8 +119,8 @@ rows =
           ∷ 2 ∷ 2 ∷ 3 ∷ 0 ∷ 4 ∷ 0 ∷ 0 ∷ 2 ∷ 1 ∷ 0 ∷ 2 ∷ 3 ∷ 3 ∷ 1 ∷ 4 ∷ 0 ∷ 72 ∷ 0 ∷ 364 ∷ 0 ∷ 1 ∷ 31076 ∷ [])
           ∷ [];
       cases =
-          compacts 1 371 (0 ∷ 364 ∷ []) (theImage 0)
-          ∷ compacts 65535 363 (16 ∷ 0 ∷ []) nothing
+          compacts 0 1 371 (0 ∷ 364 ∷ []) (theImage 0)
+          ∷ compacts 0 65535 363 (16 ∷ 0 ∷ []) nothing
           ∷ writes (0 ∷ 1 ∷ 1 ∷ 2 ∷ []) 8 500 (11 ∷ 0 ∷ []) nothing
           ∷ [];
     }
@@ -143,8 +143,8 @@ rows =
           ∷ 4 ∷ 0 ∷ 5 ∷ 1 ∷ 5 ∷ 0 ∷ 8 ∷ 1 ∷ 9 ∷ 0 ∷ 4 ∷ 1 ∷ 1 ∷ 0 ∷ 9 ∷ 84 ∷ 0 ∷ 412 ∷ 0 ∷ 1 ∷ 57401 ∷ [])
           ∷ [];
       cases =
-          compacts 3 404 (0 ∷ 404 ∷ []) (theImage 0)
-          ∷ compacts 1 412 (0 ∷ 412 ∷ []) (theImage 1)
+          compacts 0 3 404 (0 ∷ 404 ∷ []) (theImage 0)
+          ∷ compacts 0 1 412 (0 ∷ 412 ∷ []) (theImage 1)
           ∷ writes (65535 ∷ 65535 ∷ 8 ∷ 65535 ∷ 65535 ∷ 65535 ∷ 65535 ∷ 65535 ∷ 65535 ∷ 8 ∷ []) 20 417 (0 ∷ 412 ∷ []) (theImage 2)
           ∷ [];
     }
@@ -155,7 +155,7 @@ rows =
       judged = 6;
       images = [];
       cases =
-          compacts 3 4 (6 ∷ 0 ∷ []) nothing
+          compacts 0 3 4 (6 ∷ 0 ∷ []) nothing
           ∷ writes (65535 ∷ 65534 ∷ 65535 ∷ 65535 ∷ []) 8 400 (6 ∷ 0 ∷ []) nothing
           ∷ [];
     }

@@ -14,8 +14,8 @@ rows =
           (1 ∷ 4 ∷ 0 ∷ 0 ∷ 4 ∷ 0 ∷ 0 ∷ 65535 ∷ 4 ∷ 0 ∷ 0 ∷ 1 ∷ 0 ∷ 2 ∷ 0 ∷ 3 ∷ 0 ∷ 28 ∷ 0 ∷ 302 ∷ 0 ∷ 0 ∷ 61077 ∷ [])
           ∷ [];
       cases =
-          compacts 1 302 (0 ∷ 302 ∷ []) (theImage 0)
-          ∷ compacts 3 302 (0 ∷ 302 ∷ []) (theImage 0)
+          compacts 0 1 302 (0 ∷ 302 ∷ []) (theImage 0)
+          ∷ compacts 0 3 302 (0 ∷ 302 ∷ []) (theImage 0)
           ∷ writes (0 ∷ []) 2 500 (11 ∷ 0 ∷ []) nothing
           ∷ [];
     }
@@ -28,8 +28,8 @@ rows =
           (2 ∷ 3 ∷ 0 ∷ 1 ∷ 3 ∷ 0 ∷ 14570 ∷ 0 ∷ 65535 ∷ 3 ∷ 0 ∷ 0 ∷ 0 ∷ 1 ∷ 1 ∷ 1 ∷ 2 ∷ 0 ∷ 24 ∷ 0 ∷ 304 ∷ 0 ∷ 1 ∷ 24919 ∷ [])
           ∷ [];
       cases =
-          compacts 2 304 (0 ∷ 304 ∷ []) (theImage 0)
-          ∷ compacts 5 303 (16 ∷ 0 ∷ []) nothing
+          compacts 0 2 304 (0 ∷ 304 ∷ []) (theImage 0)
+          ∷ compacts 0 5 303 (16 ∷ 0 ∷ []) nothing
           ∷ expands 0 whole 283 (0 ∷ 278 ∷ []) (theTable whole)
           ∷ [];
     }
@@ -45,8 +45,8 @@ rows =
           ∷ 0 ∷ 1 ∷ 1 ∷ 0 ∷ 2 ∷ 1 ∷ 3 ∷ 0 ∷ 60 ∷ 0 ∷ 346 ∷ 0 ∷ 0 ∷ 27040 ∷ [])
           ∷ [];
       cases =
-          compacts 2 341 (0 ∷ 334 ∷ []) (theImage 0)
-          ∷ compacts 0 346 (0 ∷ 346 ∷ []) (theImage 1)
+          compacts 0 2 341 (0 ∷ 334 ∷ []) (theImage 0)
+          ∷ compacts 0 0 346 (0 ∷ 346 ∷ []) (theImage 1)
           ∷ expands 1 whole 294 (0 ∷ 292 ∷ []) (theTable whole)
           ∷ [];
     }
@@ -65,8 +65,8 @@ rows =
           ∷ [])
           ∷ [];
       cases =
-          compacts 2 360 (0 ∷ 360 ∷ []) (theImage 0)
-          ∷ compacts 3 355 (0 ∷ 348 ∷ []) (theImage 1)
+          compacts 0 2 360 (0 ∷ 360 ∷ []) (theImage 0)
+          ∷ compacts 0 3 355 (0 ∷ 348 ∷ []) (theImage 1)
           ∷ writes (65535 ∷ 3 ∷ 65535 ∷ 65535 ∷ []) 8 384 (0 ∷ 384 ∷ []) (theImage 2)
           ∷ [];
     }
@@ -82,8 +82,8 @@ rows =
           ∷ 2 ∷ 2 ∷ 0 ∷ 0 ∷ 1 ∷ 3 ∷ 2 ∷ 3 ∷ 1 ∷ 1 ∷ 2 ∷ 2 ∷ 56 ∷ 0 ∷ 354 ∷ 0 ∷ 1 ∷ 55075 ∷ [])
           ∷ [];
       cases =
-          compacts 1 362 (0 ∷ 362 ∷ []) (theImage 0)
-          ∷ compacts 10 354 (0 ∷ 354 ∷ []) (theImage 1)
+          compacts 0 1 362 (0 ∷ 362 ∷ []) (theImage 0)
+          ∷ compacts 0 10 354 (0 ∷ 354 ∷ []) (theImage 1)
           ∷ judges 1 (damaged 354 ((316, 4) ∷ (352, 32) ∷ [])) 0
           ∷ [];
     }
@@ -100,8 +100,8 @@ rows =
           ∷ 2 ∷ 3 ∷ 96 ∷ 0 ∷ 400 ∷ 0 ∷ 1 ∷ 42197 ∷ [])
           ∷ [];
       cases =
-          compacts 1 407 (0 ∷ 400 ∷ []) (theImage 0)
-          ∷ compacts 0 459 (16 ∷ 0 ∷ []) nothing
+          compacts 0 1 407 (0 ∷ 400 ∷ []) (theImage 0)
+          ∷ compacts 0 0 459 (16 ∷ 0 ∷ []) nothing
           ∷ scans 0 whole 0 (208 ∷ 92 ∷ 108 ∷ []) 0 (0 ∷ 3 ∷ 2 ∷ 0 ∷ 2 ∷ []) nothing
           ∷ [];
     }
@@ -116,8 +116,8 @@ rows =
           ∷ 23209 ∷ [])
           ∷ [];
       cases =
-          compacts 1 370 (0 ∷ 370 ∷ []) (theImage 0)
-          ∷ compacts 1 374 (0 ∷ 370 ∷ []) (theImage 0)
+          compacts 0 1 370 (0 ∷ 370 ∷ []) (theImage 0)
+          ∷ compacts 0 1 374 (0 ∷ 370 ∷ []) (theImage 0)
           ∷ scans 0 whole 4 ([]) 4 (0 ∷ 0 ∷ 4 ∷ 0 ∷ 0 ∷ []) nothing
           ∷ [];
     }
@@ -128,7 +128,7 @@ rows =
       judged = 6;
       images = [];
       cases =
-          compacts 2 14 (6 ∷ 0 ∷ []) nothing
+          compacts 0 2 14 (6 ∷ 0 ∷ []) nothing
           ∷ writes (65535 ∷ 65535 ∷ 0 ∷ []) 6 400 (6 ∷ 0 ∷ []) nothing
           ∷ [];
     }

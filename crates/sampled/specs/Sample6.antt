@@ -15,8 +15,8 @@ rows =
           ∷ 0 ∷ 52 ∷ 0 ∷ 338 ∷ 0 ∷ 1 ∷ 5458 ∷ [])
           ∷ [];
       cases =
-          compacts 2 339 (0 ∷ 338 ∷ []) (theImage 0)
-          ∷ compacts 5 343 (0 ∷ 338 ∷ []) (theImage 0)
+          compacts 0 2 339 (0 ∷ 338 ∷ []) (theImage 0)
+          ∷ compacts 0 5 343 (0 ∷ 338 ∷ []) (theImage 0)
           ∷ scans 0 whole 0 (17 ∷ 202 ∷ []) 5 (0 ∷ 2 ∷ 2 ∷ 0 ∷ 0 ∷ []) nothing
           ∷ [];
     }
@@ -34,8 +34,8 @@ rows =
           ∷ 1 ∷ 3 ∷ 3 ∷ 2 ∷ 0 ∷ 2 ∷ 1 ∷ 3 ∷ 2 ∷ 2 ∷ 3 ∷ 3 ∷ 60 ∷ 0 ∷ 352 ∷ 0 ∷ 1 ∷ 29589 ∷ [])
           ∷ [];
       cases =
-          compacts 2 336 (0 ∷ 336 ∷ []) (theImage 0)
-          ∷ compacts 0 368 (0 ∷ 368 ∷ []) (theImage 1)
+          compacts 0 2 336 (0 ∷ 336 ∷ []) (theImage 0)
+          ∷ compacts 0 0 368 (0 ∷ 368 ∷ []) (theImage 1)
           ∷ writes (3 ∷ 65535 ∷ 1 ∷ 65535 ∷ []) 8 352 (0 ∷ 352 ∷ []) (theImage 2)
           ∷ [];
     }
@@ -49,8 +49,8 @@ rows =
           ∷ 0 ∷ 3 ∷ 32 ∷ 0 ∷ 330 ∷ 0 ∷ 0 ∷ 24737 ∷ [])
           ∷ [];
       cases =
-          compacts 1 330 (0 ∷ 330 ∷ []) (theImage 0)
-          ∷ compacts 1 211 (16 ∷ 0 ∷ []) nothing
+          compacts 0 1 330 (0 ∷ 330 ∷ []) (theImage 0)
+          ∷ compacts 0 1 211 (16 ∷ 0 ∷ []) nothing
           ∷ judges 0 (damaged 330 ([])) 0
           ∷ [];
     }
@@ -74,13 +74,13 @@ rows =
           ∷ 2 ∷ 0 ∷ 4 ∷ 0 ∷ 4 ∷ 1 ∷ 1 ∷ 2 ∷ 1 ∷ 3 ∷ 1 ∷ 0 ∷ 4 ∷ 0 ∷ 2 ∷ 1 ∷ 1 ∷ 2 ∷ 1 ∷ 3 ∷ 1 ∷ 0 ∷ 2 ∷ 72 ∷ 0 ∷ 376 ∷ 0 ∷ 2 ∷ 5293 ∷ [])
           ∷ [];
       cases =
-          compacts 1 380 (0 ∷ 380 ∷ []) (theImage 0)
-          ∷ compacts 2 364 (0 ∷ 364 ∷ []) (theImage 1)
-          ∷ compacts 3 352 (0 ∷ 352 ∷ []) (theImage 2)
-          ∷ compacts 0 418 (0 ∷ 412 ∷ []) (theImage 3)
-          ∷ compacts 65535 352 (0 ∷ 352 ∷ []) (theImage 2)
-          ∷ compacts 9 354 (0 ∷ 352 ∷ []) (theImage 2)
-          ∷ compacts 1 379 (16 ∷ 0 ∷ []) nothing
+          compacts 0 1 380 (0 ∷ 380 ∷ []) (theImage 0)
+          ∷ compacts 0 2 364 (0 ∷ 364 ∷ []) (theImage 1)
+          ∷ compacts 0 3 352 (0 ∷ 352 ∷ []) (theImage 2)
+          ∷ compacts 0 0 418 (0 ∷ 412 ∷ []) (theImage 3)
+          ∷ compacts 0 65535 352 (0 ∷ 352 ∷ []) (theImage 2)
+          ∷ compacts 0 9 354 (0 ∷ 352 ∷ []) (theImage 2)
+          ∷ compacts 0 1 379 (16 ∷ 0 ∷ []) nothing
           ∷ writes (4 ∷ 5 ∷ 65535 ∷ 4 ∷ 65535 ∷ 2 ∷ []) 12 377 (0 ∷ 376 ∷ []) (theImage 4)
           ∷ writes (1 ∷ 5 ∷ 65535 ∷ 65535 ∷ 65535 ∷ 65535 ∷ []) 12 399 (16 ∷ 0 ∷ []) nothing
           ∷ writes (3 ∷ 5 ∷ 4 ∷ 1 ∷ 3 ∷ 2 ∷ []) 12 500 (11 ∷ 0 ∷ []) nothing
@@ -102,8 +102,8 @@ rows =
           ∷ 0 ∷ 1 ∷ 1 ∷ 3 ∷ 2 ∷ 6 ∷ 3 ∷ 4 ∷ 4 ∷ 0 ∷ 0 ∷ 5 ∷ 3 ∷ 5 ∷ 112 ∷ 0 ∷ 422 ∷ 0 ∷ 1 ∷ 63171 ∷ [])
           ∷ [];
       cases =
-          compacts 1 422 (0 ∷ 422 ∷ []) (theImage 0)
-          ∷ compacts 1 427 (0 ∷ 422 ∷ []) (theImage 0)
+          compacts 0 1 422 (0 ∷ 422 ∷ []) (theImage 0)
+          ∷ compacts 0 1 427 (0 ∷ 422 ∷ []) (theImage 0)
           ∷ judges 0 (damaged 422 ((304, 4) ∷ (420, 191) ∷ [])) 8
           ∷ [];
     }
@@ -119,8 +119,8 @@ rows =
           ∷ 0 ∷ 0 ∷ 1 ∷ 1 ∷ 1 ∷ 2 ∷ 3 ∷ 0 ∷ 1 ∷ 1 ∷ 1 ∷ 2 ∷ 3 ∷ 60 ∷ 0 ∷ 352 ∷ 0 ∷ 0 ∷ 12823 ∷ [])
           ∷ [];
       cases =
-          compacts 3 343 (0 ∷ 340 ∷ []) (theImage 0)
-          ∷ compacts 0 352 (0 ∷ 352 ∷ []) (theImage 1)
+          compacts 0 3 343 (0 ∷ 340 ∷ []) (theImage 0)
+          ∷ compacts 0 0 352 (0 ∷ 352 ∷ []) (theImage 1)
           ∷ scans 0 whole 2 ([]) 0 (0 ∷ 0 ∷ 2 ∷ 0 ∷ 0 ∷ []) nothing
           ∷ [];
     }
@@ -145,8 +145,8 @@ rows =
           ∷ 1 ∷ 1 ∷ 2 ∷ 5 ∷ 3 ∷ 4 ∷ 4 ∷ 9 ∷ 252 ∷ 0 ∷ 592 ∷ 0 ∷ 0 ∷ 37699 ∷ [])
           ∷ [];
       cases =
-          compacts 2 470 (0 ∷ 468 ∷ []) (theImage 0)
-          ∷ compacts 0 592 (0 ∷ 592 ∷ []) (theImage 1)
+          compacts 0 2 470 (0 ∷ 468 ∷ []) (theImage 0)
+          ∷ compacts 0 0 592 (0 ∷ 592 ∷ []) (theImage 1)
           ∷ judges 1 (damaged 418 ([])) 3
           ∷ [];
     }
@@ -157,7 +157,7 @@ rows =
       judged = 10;
       images = [];
       cases =
-          compacts 1 400 (10 ∷ 0 ∷ []) nothing
+          compacts 0 1 400 (10 ∷ 0 ∷ []) nothing
           ∷ writes (65535 ∷ 65535 ∷ []) 4 400 (10 ∷ 0 ∷ []) nothing
           ∷ [];
     }

@@ -14,8 +14,8 @@ rows =
           (1 ∷ 1 ∷ 0 ∷ 0 ∷ 1 ∷ 0 ∷ 25710 ∷ 65535 ∷ 1 ∷ 0 ∷ 0 ∷ 16 ∷ 0 ∷ 290 ∷ 0 ∷ 0 ∷ 39515 ∷ [])
           ∷ [];
       cases =
-          compacts 1 290 (0 ∷ 290 ∷ []) (theImage 0)
-          ∷ compacts 4 290 (0 ∷ 290 ∷ []) (theImage 0)
+          compacts 0 1 290 (0 ∷ 290 ∷ []) (theImage 0)
+          ∷ compacts 0 4 290 (0 ∷ 290 ∷ []) (theImage 0)
           ∷ expands 0 whole 266 (0 ∷ 266 ∷ []) (theTable whole)
           ∷ [];
     }
@@ -31,8 +31,8 @@ rows =
           ∷ [])
           ∷ [];
       cases =
-          compacts 2 321 (0 ∷ 320 ∷ []) (theImage 0)
-          ∷ compacts 1 323 (0 ∷ 320 ∷ []) (theImage 0)
+          compacts 0 2 321 (0 ∷ 320 ∷ []) (theImage 0)
+          ∷ compacts 0 1 323 (0 ∷ 320 ∷ []) (theImage 0)
           ∷ writes (1 ∷ 65535 ∷ []) 4 320 (0 ∷ 320 ∷ []) (theImage 1)
           ∷ [];
     }
@@ -45,8 +45,8 @@ rows =
           (3 ∷ 2 ∷ 1 ∷ 1 ∷ 4 ∷ 0 ∷ 0 ∷ 0 ∷ 0 ∷ 65535 ∷ 2 ∷ 65535 ∷ 2 ∷ 1 ∷ 0 ∷ 0 ∷ 1 ∷ 1 ∷ 0 ∷ 0 ∷ 2 ∷ 1 ∷ 1 ∷ 28 ∷ 0 ∷ 314 ∷ 0 ∷ 1 ∷ 61056 ∷ [])
           ∷ [];
       cases =
-          compacts 2 314 (0 ∷ 314 ∷ []) (theImage 0)
-          ∷ compacts 3 314 (0 ∷ 314 ∷ []) (theImage 0)
+          compacts 0 2 314 (0 ∷ 314 ∷ []) (theImage 0)
+          ∷ compacts 0 3 314 (0 ∷ 314 ∷ []) (theImage 0)
           ∷ writes (65535 ∷ 2 ∷ []) 4 500 (8 ∷ 0 ∷ []) nothing
           ∷ [];
     }
@@ -60,8 +60,8 @@ rows =
           ∷ 0 ∷ 2 ∷ 1 ∷ 0 ∷ 44 ∷ 0 ∷ 336 ∷ 0 ∷ 0 ∷ 40450 ∷ [])
           ∷ [];
       cases =
-          compacts 1 336 (0 ∷ 336 ∷ []) (theImage 0)
-          ∷ compacts 0 336 (0 ∷ 336 ∷ []) (theImage 0)
+          compacts 0 1 336 (0 ∷ 336 ∷ []) (theImage 0)
+          ∷ compacts 0 0 336 (0 ∷ 336 ∷ []) (theImage 0)
           ∷ writes (65535 ∷ 65535 ∷ 65535 ∷ 65535 ∷ []) 8 36 (16 ∷ 0 ∷ []) nothing
           ∷ [];
     }
@@ -77,8 +77,8 @@ rows =
           ∷ 0 ∷ 1 ∷ 0 ∷ 1 ∷ 4 ∷ 44 ∷ 0 ∷ 342 ∷ 0 ∷ 1 ∷ 45114 ∷ [])
           ∷ [];
       cases =
-          compacts 1 350 (0 ∷ 350 ∷ []) (theImage 0)
-          ∷ compacts 65535 354 (0 ∷ 350 ∷ []) (theImage 0)
+          compacts 0 1 350 (0 ∷ 350 ∷ []) (theImage 0)
+          ∷ compacts 0 65535 354 (0 ∷ 350 ∷ []) (theImage 0)
           ∷ writes (65535 ∷ 2 ∷ 4 ∷ 65535 ∷ 0 ∷ []) 10 349 (0 ∷ 342 ∷ []) (theImage 1)
           ∷ [];
     }
@@ -97,8 +97,8 @@ rows =
           ∷ 3 ∷ 3 ∷ 4 ∷ 5 ∷ 0 ∷ 4 ∷ 2 ∷ 5 ∷ 0 ∷ 1 ∷ 1 ∷ 3 ∷ 2 ∷ 5 ∷ 3 ∷ 4 ∷ 4 ∷ 5 ∷ 4 ∷ 1 ∷ 0 ∷ 4 ∷ 2 ∷ 2 ∷ 72 ∷ 0 ∷ 376 ∷ 0 ∷ 1 ∷ 625 ∷ [])
           ∷ [];
       cases =
-          compacts 1 409 (0 ∷ 404 ∷ []) (theImage 0)
-          ∷ compacts 2 376 (0 ∷ 376 ∷ []) (theImage 1)
+          compacts 0 1 409 (0 ∷ 404 ∷ []) (theImage 0)
+          ∷ compacts 0 2 376 (0 ∷ 376 ∷ []) (theImage 1)
           ∷ judges 0 (damaged 404 ((374, 1) ∷ (402, 10) ∷ [])) 0
           ∷ [];
     }
@@ -116,8 +116,8 @@ rows =
           ∷ 14368 ∷ [])
           ∷ [];
       cases =
-          compacts 1 446 (0 ∷ 446 ∷ []) (theImage 0)
-          ∷ compacts 3 385 (16 ∷ 0 ∷ []) nothing
+          compacts 0 1 446 (0 ∷ 446 ∷ []) (theImage 0)
+          ∷ compacts 0 3 385 (16 ∷ 0 ∷ []) nothing
           ∷ expands 0 whole 370 (0 ∷ 370 ∷ []) (theTable whole)
           ∷ [];
     }
@@ -128,7 +128,7 @@ rows =
       judged = 7;
       images = [];
       cases =
-          compacts 2 3 (7 ∷ 0 ∷ []) nothing
+          compacts 0 2 3 (7 ∷ 0 ∷ []) nothing
           ∷ writes (65534 ∷ []) 2 400 (7 ∷ 0 ∷ []) nothing
           ∷ [];
     }

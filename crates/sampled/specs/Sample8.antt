@@ -14,8 +14,8 @@ rows =
           (3 ∷ 1 ∷ 2 ∷ 0 ∷ 3 ∷ 0 ∷ 49078 ∷ 0 ∷ 0 ∷ 65535 ∷ 1 ∷ 65535 ∷ 1 ∷ 65535 ∷ 1 ∷ 0 ∷ 2 ∷ 0 ∷ 2 ∷ 0 ∷ 2 ∷ 24 ∷ 0 ∷ 310 ∷ 0 ∷ 0 ∷ 16105 ∷ [])
           ∷ [];
       cases =
-          compacts 1 310 (0 ∷ 310 ∷ []) (theImage 0)
-          ∷ compacts 65535 309 (16 ∷ 0 ∷ []) nothing
+          compacts 0 1 310 (0 ∷ 310 ∷ []) (theImage 0)
+          ∷ compacts 0 65535 309 (16 ∷ 0 ∷ []) nothing
           ∷ judges 0 (damaged 310 ((292, 1) ∷ (308, 234) ∷ [])) 0
           ∷ [];
     }
@@ -29,8 +29,8 @@ rows =
           ∷ 0 ∷ 0 ∷ 2 ∷ 1 ∷ 2 ∷ 44 ∷ 0 ∷ 336 ∷ 0 ∷ 0 ∷ 8087 ∷ [])
           ∷ [];
       cases =
-          compacts 3 340 (0 ∷ 336 ∷ []) (theImage 0)
-          ∷ compacts 65535 136 (16 ∷ 0 ∷ []) nothing
+          compacts 0 3 340 (0 ∷ 336 ∷ []) (theImage 0)
+          ∷ compacts 0 65535 136 (16 ∷ 0 ∷ []) nothing
           ∷ writes (5 ∷ 65535 ∷ 65535 ∷ 65535 ∷ []) 8 500 (8 ∷ 0 ∷ []) nothing
           ∷ [];
     }
@@ -49,8 +49,8 @@ rows =
           ∷ 61841 ∷ [])
           ∷ [];
       cases =
-          compacts 2 346 (0 ∷ 346 ∷ []) (theImage 0)
-          ∷ compacts 1 383 (0 ∷ 382 ∷ []) (theImage 1)
+          compacts 0 2 346 (0 ∷ 346 ∷ []) (theImage 0)
+          ∷ compacts 0 1 383 (0 ∷ 382 ∷ []) (theImage 1)
           ∷ judges 0 (damaged 346 ([])) 0
           ∷ [];
     }
@@ -64,8 +64,8 @@ rows =
           ∷ 0 ∷ 1 ∷ 1 ∷ 4 ∷ 0 ∷ 5 ∷ 1 ∷ 4 ∷ 0 ∷ 2 ∷ 1 ∷ 4 ∷ 0 ∷ 0 ∷ 1 ∷ 4 ∷ 52 ∷ 0 ∷ 356 ∷ 0 ∷ 1 ∷ 37087 ∷ [])
           ∷ [];
       cases =
-          compacts 3 356 (0 ∷ 356 ∷ []) (theImage 0)
-          ∷ compacts 1 356 (0 ∷ 356 ∷ []) (theImage 0)
+          compacts 0 3 356 (0 ∷ 356 ∷ []) (theImage 0)
+          ∷ compacts 0 1 356 (0 ∷ 356 ∷ []) (theImage 0)
           ∷ judges 0 (damaged 356 ((302, 1) ∷ (354, 222) ∷ [])) 8
           ∷ [];
     }
@@ -95,13 +95,13 @@ rows =
           ∷ 2 ∷ 3 ∷ 0 ∷ 0 ∷ 1 ∷ 1 ∷ 5 ∷ 2 ∷ 2 ∷ 3 ∷ 0 ∷ 0 ∷ 1 ∷ 1 ∷ 5 ∷ 3 ∷ 0 ∷ 116 ∷ 0 ∷ 426 ∷ 0 ∷ 1 ∷ 29000 ∷ [])
           ∷ [];
       cases =
-          compacts 1 405 (0 ∷ 398 ∷ []) (theImage 0)
-          ∷ compacts 2 386 (0 ∷ 386 ∷ []) (theImage 1)
-          ∷ compacts 3 378 (0 ∷ 378 ∷ []) (theImage 2)
-          ∷ compacts 0 434 (0 ∷ 434 ∷ []) (theImage 3)
-          ∷ compacts 65535 379 (0 ∷ 374 ∷ []) (theImage 4)
-          ∷ compacts 6 374 (0 ∷ 374 ∷ []) (theImage 4)
-          ∷ compacts 1 397 (16 ∷ 0 ∷ []) nothing
+          compacts 0 1 405 (0 ∷ 398 ∷ []) (theImage 0)
+          ∷ compacts 0 2 386 (0 ∷ 386 ∷ []) (theImage 1)
+          ∷ compacts 0 3 378 (0 ∷ 378 ∷ []) (theImage 2)
+          ∷ compacts 0 0 434 (0 ∷ 434 ∷ []) (theImage 3)
+          ∷ compacts 0 65535 379 (0 ∷ 374 ∷ []) (theImage 4)
+          ∷ compacts 0 6 374 (0 ∷ 374 ∷ []) (theImage 4)
+          ∷ compacts 0 1 397 (16 ∷ 0 ∷ []) nothing
           ∷ writes (65535 ∷ 65535 ∷ 5 ∷ 65535 ∷ 65535 ∷ 65535 ∷ 0 ∷ []) 14 429 (0 ∷ 426 ∷ []) (theImage 5)
           ∷ writes (4 ∷ 65535 ∷ 3 ∷ 4 ∷ 65535 ∷ 2 ∷ 1 ∷ []) 14 227 (16 ∷ 0 ∷ []) nothing
           ∷ writes (65535 ∷ 65535 ∷ 65535 ∷ 65535 ∷ 65535 ∷ 0 ∷ 65535 ∷ 0 ∷ []) 16 500 (8 ∷ 0 ∷ []) nothing
@@ -120,8 +120,8 @@ rows =
           ∷ 4 ∷ 0 ∷ 0 ∷ 3 ∷ 1 ∷ 3 ∷ 2 ∷ 3 ∷ 3 ∷ 2 ∷ 4 ∷ 3 ∷ 3 ∷ 3 ∷ 68 ∷ 0 ∷ 360 ∷ 0 ∷ 1 ∷ 39410 ∷ [])
           ∷ [];
       cases =
-          compacts 2 360 (0 ∷ 360 ∷ []) (theImage 0)
-          ∷ compacts 65535 360 (0 ∷ 360 ∷ []) (theImage 0)
+          compacts 0 2 360 (0 ∷ 360 ∷ []) (theImage 0)
+          ∷ compacts 0 65535 360 (0 ∷ 360 ∷ []) (theImage 0)
           ∷ expands 0 whole 310 (0 ∷ 310 ∷ []) (theTable whole)
           ∷ [];
     }
@@ -143,8 +143,8 @@ rows =
           ∷ 7 ∷ 3 ∷ 0 ∷ 0 ∷ 4 ∷ 1 ∷ 3 ∷ 2 ∷ 3 ∷ 3 ∷ 1 ∷ 148 ∷ 0 ∷ 476 ∷ 0 ∷ 1 ∷ 126 ∷ [])
           ∷ [];
       cases =
-          compacts 1 484 (0 ∷ 484 ∷ []) (theImage 0)
-          ∷ compacts 65535 476 (0 ∷ 476 ∷ []) (theImage 1)
+          compacts 0 1 484 (0 ∷ 484 ∷ []) (theImage 0)
+          ∷ compacts 0 65535 476 (0 ∷ 476 ∷ []) (theImage 1)
           ∷ scans 0 (damaged 484 ((476, 229) ∷ [])) 2 (70 ∷ 63 ∷ 130 ∷ 105 ∷ 71 ∷ 99 ∷ 147 ∷ 69 ∷ []) 6 (4 ∷ 0 ∷ 0 ∷ 0 ∷ 0 ∷ []) nothing
           ∷ [];
     }
@@ -155,7 +155,7 @@ rows =
       judged = 7;
       images = [];
       cases =
-          compacts 1 400 (7 ∷ 0 ∷ []) nothing
+          compacts 0 1 400 (7 ∷ 0 ∷ []) nothing
           ∷ writes (1 ∷ 3 ∷ 65535 ∷ 4 ∷ []) 8 400 (7 ∷ 0 ∷ []) nothing
           ∷ [];
     }

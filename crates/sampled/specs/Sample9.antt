@@ -14,8 +14,8 @@ rows =
           (1 ∷ 4 ∷ 0 ∷ 0 ∷ 4 ∷ 0 ∷ 0 ∷ 65535 ∷ 4 ∷ 0 ∷ 0 ∷ 1 ∷ 0 ∷ 2 ∷ 0 ∷ 3 ∷ 0 ∷ 28 ∷ 0 ∷ 302 ∷ 0 ∷ 0 ∷ 26888 ∷ [])
           ∷ [];
       cases =
-          compacts 1 303 (0 ∷ 302 ∷ []) (theImage 0)
-          ∷ compacts 10 301 (16 ∷ 0 ∷ []) nothing
+          compacts 0 1 303 (0 ∷ 302 ∷ []) (theImage 0)
+          ∷ compacts 0 10 301 (16 ∷ 0 ∷ []) nothing
           ∷ judges 0 (damaged 302 ((90, 2) ∷ (300, 7) ∷ [])) 0
           ∷ [];
     }
@@ -28,8 +28,8 @@ rows =
           (2 ∷ 1 ∷ 1 ∷ 0 ∷ 2 ∷ 0 ∷ 0 ∷ 0 ∷ 65535 ∷ 1 ∷ 65535 ∷ 1 ∷ 0 ∷ 0 ∷ 0 ∷ 1 ∷ 20 ∷ 0 ∷ 300 ∷ 0 ∷ 0 ∷ 65206 ∷ [])
           ∷ [];
       cases =
-          compacts 1 300 (0 ∷ 300 ∷ []) (theImage 0)
-          ∷ compacts 1 308 (0 ∷ 300 ∷ []) (theImage 0)
+          compacts 0 1 300 (0 ∷ 300 ∷ []) (theImage 0)
+          ∷ compacts 0 1 308 (0 ∷ 300 ∷ []) (theImage 0)
           ∷ judges 0 (damaged 300 ([])) 0
           ∷ [];
     }
@@ -42,8 +42,8 @@ rows =
           (3 ∷ 2 ∷ 1 ∷ 1 ∷ 4 ∷ 0 ∷ 0 ∷ 0 ∷ 0 ∷ 65535 ∷ 2 ∷ 0 ∷ 0 ∷ 65535 ∷ 2 ∷ 0 ∷ 0 ∷ 1 ∷ 1 ∷ 0 ∷ 0 ∷ 1 ∷ 0 ∷ 28 ∷ 0 ∷ 314 ∷ 0 ∷ 1 ∷ 62346 ∷ [])
           ∷ [];
       cases =
-          compacts 3 317 (0 ∷ 314 ∷ []) (theImage 0)
-          ∷ compacts 2 313 (16 ∷ 0 ∷ []) nothing
+          compacts 0 3 317 (0 ∷ 314 ∷ []) (theImage 0)
+          ∷ compacts 0 2 313 (16 ∷ 0 ∷ []) nothing
           ∷ writes (65535 ∷ 0 ∷ 1 ∷ []) 6 309 (16 ∷ 0 ∷ []) nothing
           ∷ [];
     }
@@ -59,8 +59,8 @@ rows =
           ∷ 328 ∷ 0 ∷ 1 ∷ 39174 ∷ [])
           ∷ [];
       cases =
-          compacts 1 328 (0 ∷ 328 ∷ []) (theImage 0)
-          ∷ compacts 1 329 (0 ∷ 328 ∷ []) (theImage 0)
+          compacts 0 1 328 (0 ∷ 328 ∷ []) (theImage 0)
+          ∷ compacts 0 1 329 (0 ∷ 328 ∷ []) (theImage 0)
           ∷ writes (2 ∷ 65535 ∷ 65535 ∷ 1 ∷ []) 8 328 (0 ∷ 328 ∷ []) (theImage 1)
           ∷ [];
     }
@@ -76,8 +76,8 @@ rows =
           ∷ 1 ∷ 44779 ∷ [])
           ∷ [];
       cases =
-          compacts 1 346 (0 ∷ 346 ∷ []) (theImage 0)
-          ∷ compacts 65535 329 (0 ∷ 322 ∷ []) (theImage 1)
+          compacts 0 1 346 (0 ∷ 346 ∷ []) (theImage 0)
+          ∷ compacts 0 65535 329 (0 ∷ 322 ∷ []) (theImage 1)
           ∷ writes (4 ∷ 0 ∷ 4 ∷ 0 ∷ 65535 ∷ 0 ∷ []) 12 500 (8 ∷ 0 ∷ []) nothing
           ∷ [];
     }
@@ -96,8 +96,8 @@ rows =
           ∷ 1 ∷ 0 ∷ 3 ∷ 1 ∷ 5 ∷ 2 ∷ 0 ∷ 3 ∷ 5 ∷ 44 ∷ 0 ∷ 348 ∷ 0 ∷ 1 ∷ 44944 ∷ [])
           ∷ [];
       cases =
-          compacts 1 381 (0 ∷ 380 ∷ []) (theImage 0)
-          ∷ compacts 9 348 (0 ∷ 348 ∷ []) (theImage 1)
+          compacts 0 1 381 (0 ∷ 380 ∷ []) (theImage 0)
+          ∷ compacts 0 9 348 (0 ∷ 348 ∷ []) (theImage 1)
           ∷ scans 0 whole 1 (135 ∷ 168 ∷ 187 ∷ 72 ∷ []) 17 (0 ∷ 4 ∷ 2 ∷ 2 ∷ 0 ∷ []) (these (0 ∷ 0 ∷ 34405 ∷ 2 ∷ 0 ∷ 34405 ∷ []))
           ∷ [];
     }
@@ -118,8 +118,8 @@ rows =
           ∷ 64147 ∷ [])
           ∷ [];
       cases =
-          compacts 3 402 (0 ∷ 402 ∷ []) (theImage 0)
-          ∷ compacts 0 442 (0 ∷ 442 ∷ []) (theImage 1)
+          compacts 0 3 402 (0 ∷ 402 ∷ []) (theImage 0)
+          ∷ compacts 0 0 442 (0 ∷ 442 ∷ []) (theImage 1)
           ∷ judges 1 (damaged 442 ((294, 5) ∷ (295, 0) ∷ (440, 142) ∷ [])) 12
           ∷ [];
     }
@@ -130,7 +130,7 @@ rows =
       judged = 1;
       images = [];
       cases =
-          compacts 0 400 (1 ∷ 0 ∷ []) nothing
+          compacts 0 0 400 (1 ∷ 0 ∷ []) nothing
           ∷ writes (3 ∷ 3 ∷ 2 ∷ 3 ∷ 3 ∷ []) 10 10 (1 ∷ 0 ∷ []) nothing
           ∷ [];
     }

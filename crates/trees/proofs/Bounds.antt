@@ -13,9 +13,10 @@ use Rattle.paper.specs.Below.{differ}
 use Rattle.paper.specs.Paths.{Among}
 use Rattle.paper.specs.Table.{states, classes}
 use Rattle.paper.specs.Forest.{Trees, weight, singles, joined, joinedLongest, addedOrDropped, pairs, nextPair, without, taken, falling, rest, lean, root, nearer, pointsTo, forest, defaults}
+use Rattle.paper.specs.BestPair.{Weighs}
 use Rattle.paper.proofs.Below.{and-true, firstOf-none}
 use Rattle.paper.proofs.Tests.{holds-differ}
-use Rattle.trees.proofs.Pairs.{nextPair-among, without-among, Weighs, pairs-weigh}
+use Rattle.trees.proofs.Pairs.{nextPair-among, without-among, pairs-weigh}
 use Rattle.trees.proofs.Size.{Sized, singles-sized, joined-sized, joinedLongest-below}
 
 -- A second test that fails.
@@ -49,11 +50,11 @@ unfolding singles
 singles-alone n lean r x y = and-false (eqb x y) _ refl
 
 -- So the bound 0 gives no defaults.
-pub bound-zero : (t : List ℕ) (s : ℕ) → defaults t 0 s ≡ none
+pub bound-zero : (t : List ℕ) (order s : ℕ) → defaults t order 0 s ≡ none
 unfolding defaults forest pointsTo
-bound-zero t s =
+bound-zero t order s =
     let n = states t in
-    ap (λ (F : Trees). pointsTo n (lean n) F s) (falling-zero n (rest n) (weight t) (classes t - 1) singles)
+    ap (λ (F : Trees). pointsTo n (lean n) F s) (falling-zero n (rest order n) (weight t) (classes t - 1) singles)
     ∙ firstOf-none n (nearer n (lean n) singles (root n (lean n) singles s) s) (λ y l. singles-alone n (lean n) (root n (lean n) singles s) s y)
 
 module _ (n D D′ : ℕ) (large : n ≤ D + 1) (large′ : n ≤ D′ + 1) where
@@ -100,8 +101,8 @@ module _ (n D D′ : ℕ) (large : n ≤ D + 1) (large′ : n ≤ D′ + 1) wher
         ap (λ (G : Trees). falling n rest D weight w G) e ∙ falling-free w (taken n rest D′ (length ps) F ps) T
 
 -- So a bound of n - 1 or more binds nothing: every such bound gives the same defaults.
-pub bound-free : (t : List ℕ) (D D′ : ℕ) → states t ≤ D + 1 → states t ≤ D′ + 1 → defaults t D ≡ defaults t D′
+pub bound-free : (t : List ℕ) (order D D′ : ℕ) → states t ≤ D + 1 → states t ≤ D′ + 1 → defaults t order D ≡ defaults t order D′
 unfolding defaults forest
-bound-free t D D′ large large′ =
+bound-free t order D D′ large large′ =
     let n = states t in
-    ap (λ (F : Trees). pointsTo n (lean n) F) (falling-free n D D′ large large′ (rest n) (weight t) (classes t - 1) singles (singles-sized n))
+    ap (λ (F : Trees). pointsTo n (lean n) F) (falling-free n D D′ large large′ (rest order n) (weight t) (classes t - 1) singles (singles-sized n))

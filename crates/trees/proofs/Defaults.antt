@@ -15,27 +15,27 @@ use Rattle.trees.proofs.Radius.{root-distance}
 use Rattle.trees.proofs.Depth.{chain-distance}
 
 -- A default is a state below n.
-pub defaults-below : (t : List ℕ) (D s d : ℕ) → defaults t D s ≡ some d → d < states t
+pub defaults-below : (t : List ℕ) (order D s d : ℕ) → defaults t order D s ≡ some d → d < states t
 unfolding defaults
-defaults-below t D s d e = pointsTo-some (states t) (lean (states t)) (forest t D) s d e .0
+defaults-below t order D s d e = pointsTo-some (states t) (lean (states t)) (forest t order D) s d e .0
 
-module _ (t : List ℕ) (D : ℕ) (v : View) (same : (s : ℕ) → s < states t → v .default s ≡ defaults t D s) where
+module _ (t : List ℕ) (order D : ℕ) (v : View) (same : (s : ℕ) → s < states t → v .default s ≡ defaults t order D s) where
   -- Over a table with path bound D the chain of every state ends, and its steps are at most D halved and rounded up.
   pub defaults-chain : (s : ℕ) → s < states t → (steps : ℕ) × (chain v (states t) s ≡ some steps) × (steps ≤ (D + 1) / 2)
   unfolding defaults
   defaults-chain s l =
       let n = states t in
-      let F = forest t D in
-      let G = forest-grown t D in (
+      let F = forest t order D in
+      let G = forest-grown t order D in (
         F .distance s (root n (lean n) F s),
         chain-distance n (lean n) F (G .metric) (G .inside) (G .sized) v same s l,
         omega (arith, root-distance n (lean n) F (G .metric) (G .inside) s l, G .short s),
       )
 
 -- So the depth built never exceeds D halved and rounded up.
-pub defaults-depth : (t : List ℕ) (D : ℕ) → depthOf (tableView t (defaults t D)) ≤ (D + 1) / 2
+pub defaults-depth : (t : List ℕ) (order D : ℕ) → depthOf (tableView t (defaults t order D)) ≤ (D + 1) / 2
 unfolding depthOf
-defaults-depth t D =
+defaults-depth t order D =
     largest-least (states t) _ _ (λ s l.
-    let (steps, e, h) = defaults-chain t D (tableView t (defaults t D)) (λ x k. refl) s l in
+    let (steps, e, h) = defaults-chain t order D (tableView t (defaults t order D)) (λ x k. refl) s l in
     rw e h)

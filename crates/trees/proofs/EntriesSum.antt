@@ -38,7 +38,7 @@ module _ (t : List ℕ) where
   weight-turned u v =
       ap (λ (x : ℕ). x - 1) (count-same (classes t) (λ c. eqb (next t u c) (next t v c)) (λ c. eqb (next t v c) (next t u c)) (λ c h. equal-turned (next t u c) (next t v c)))
 
-  module _ (D : ℕ) where
+  module _ (order D : ℕ) where
     -- Grown trees in which neighbours have weight, and whose neighbours weigh twice what the pairs added do.
     record Weighed (F : Trees) : Type 0 where
       grown : Grown (states t) D F
@@ -79,46 +79,46 @@ module _ (t : List ℕ) where
         }
 
     -- So the forest is such.
-    forest-weighed : Weighed (forest t D)
-    forest-weighed = forest-keeps t D Weighed added-weighed singles-weighed
+    forest-weighed : Weighed (forest t order D)
+    forest-weighed = forest-keeps t order D Weighed added-weighed singles-weighed
 
     -- The weights of the states with their defaults are those of the pairs added.
-    falls-added : fallSum (states t) (weight t) (defaults t D) ≡ weightsOf (weight t) (forest t D .added)
+    falls-added : fallSum (states t) (weight t) (defaults t order D) ≡ weightsOf (weight t) (forest t order D .added)
     unfolding defaults
     falls-added =
         let W = forest-weighed in
         let n = states t in
-        omega (arith, W .twice, around-falls n (weight t) weight-turned (lean n) (forest t D) (W .grown .metric) (W .grown .inside))
+        omega (arith, W .twice, around-falls n (weight t) weight-turned (lean n) (forest t order D) (W .grown .metric) (W .grown .inside))
 
     -- A default shares classes with its state, so there is a weight.
-    default-heavy : (s d : ℕ) → defaults t D s ≡ some d → 1 ≤ weight t s d
+    default-heavy : (s d : ℕ) → defaults t order D s ≡ some d → 1 ≤ weight t s d
     unfolding defaults
     default-heavy s d e =
-        let (_, N) = pointsTo-some (states t) (lean (states t)) (forest t D) s d e in
+        let (_, N) = pointsTo-some (states t) (lean (states t)) (forest t order D) s d e in
         forest-weighed .heavy s d (N .mate, N .step)
 
     -- The classes in which two states differ, one, and their weight, make k.
-    differ-sum : (s d : ℕ) → 1 ≤ weight t s d → howMany (classes t) (λ c. differs t (defaults t D) s c (some d)) + (1 + weight t s d) ≡ classes t
+    differ-sum : (s d : ℕ) → 1 ≤ weight t s d → howMany (classes t) (λ c. differs t (defaults t order D) s c (some d)) + (1 + weight t s d) ≡ classes t
     unfolding weight
     differ-sum s d h = omega (arith, h, count-both (classes t) (λ c. eqb (next t s c) (next t d c)))
 
     -- What a state stores, whether it has a default, and the weight of the two make k.
-    state-sum : (s : ℕ) → length (entriesOf t (defaults t D) s) + (bit (given (defaults t D s)) + defaultValue (defaults t D s) (weight t s)) ≡ classes t
+    state-sum : (s : ℕ) → length (entriesOf t (defaults t order D) s) + (bit (given (defaults t order D s)) + defaultValue (defaults t order D s) (weight t s)) ≡ classes t
     unfolding entriesOf
-    state-sum s = ap (λ (l : ℕ). l + (bit (given (defaults t D s)) + defaultValue (defaults t D s) (weight t s))) (length-passed (classes t) (λ c. differs t (defaults t D) s c (defaults t D s)) (λ c. (c, next t s c))) ∙ go (defaults t D s) refl
+    state-sum s = ap (λ (l : ℕ). l + (bit (given (defaults t order D s)) + defaultValue (defaults t order D s) (weight t s))) (length-passed (classes t) (λ c. differs t (defaults t order D) s c (defaults t order D s)) (λ c. (c, next t s c))) ∙ go (defaults t order D s) refl
       where
-        go : (o : Option ℕ) → defaults t D s ≡ o → howMany (classes t) (λ c. differs t (defaults t D) s c o) + (bit (given o) + defaultValue o (weight t s)) ≡ classes t
+        go : (o : Option ℕ) → defaults t order D s ≡ o → howMany (classes t) (λ c. differs t (defaults t order D) s c o) + (bit (given o) + defaultValue o (weight t s)) ≡ classes t
         go none q = omega (arith, count-all (classes t) (λ c. true) (λ c h. refl))
         go (some d) q = differ-sum s d (default-heavy s d q)
 
 -- Stored entries, plus defaults, plus the weights of the pairs added, equal n times k.
-pub entries-sum : (t : List ℕ) (D : ℕ)
-    → sum (states t) (λ s. length (entriesOf t (defaults t D) s)) + (howMany (states t) (λ s. given (defaults t D s)) + weightsOf (weight t) (forest t D .added)) ≡ states t * classes t
-entries-sum t D =
+pub entries-sum : (t : List ℕ) (order D : ℕ)
+    → sum (states t) (λ s. length (entriesOf t (defaults t order D) s)) + (howMany (states t) (λ s. given (defaults t order D s)) + weightsOf (weight t) (forest t order D .added)) ≡ states t * classes t
+entries-sum t order D =
     let n = states t in
-    let f = defaults t D in
+    let f = defaults t order D in
     let stored : ℕ → ℕ = λ s. length (entriesOf t f s) in
     let used : ℕ → ℕ = λ s. bit (given (f s)) in
     let shared : ℕ → ℕ = λ s. defaultValue (f s) (weight t s) in
-    let all : sum n (λ s. stored s + (used s + shared s)) ≡ n * classes t = sum-same n (λ s. stored s + (used s + shared s)) (λ s. classes t) (λ s h. state-sum t D s) ∙ sum-constant n (classes t) in
-    omega (arith, all, sum-add n stored (λ s. used s + shared s), sum-add n used shared, falls-added t D)
+    let all : sum n (λ s. stored s + (used s + shared s)) ≡ n * classes t = sum-same n (λ s. stored s + (used s + shared s)) (λ s. classes t) (λ s h. state-sum t order D s) ∙ sum-constant n (classes t) in
+    omega (arith, all, sum-add n stored (λ s. used s + shared s), sum-add n used shared, falls-added t order D)

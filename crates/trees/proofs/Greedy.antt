@@ -11,9 +11,10 @@ use Rattle.paper.specs.Below.{differ}
 use Rattle.paper.specs.Paths.{Among}
 use Rattle.paper.specs.Table.{states, classes}
 use Rattle.paper.specs.Forest.{Trees, weight, singles, joined, joinedLongest, addedOrDropped, pairs, without, nextPair, taken, falling, rest, forest}
+use Rattle.paper.specs.BestPair.{Weighs}
 use Rattle.paper.proofs.Below.{and-true}
 use Rattle.paper.proofs.Join.{Mates}
-use Rattle.trees.proofs.Pairs.{nextPair-among, without-among, Weighs, pairs-weigh}
+use Rattle.trees.proofs.Pairs.{nextPair-among, without-among, pairs-weigh}
 
 -- The pair of u and v is added to F: it has a weight, its ends lie in different trees, and the joined tree's longest path is at most D.
 pub record Added (n D : ℕ) (weight : ℕ → ℕ → ℕ) (F : Trees) (u v : ℕ) : Type 0 where
@@ -69,7 +70,7 @@ module _ (n D : ℕ) (weight : ℕ → ℕ → ℕ) (P : Trees → Type 0) (kept
       falling-keeps rest w (taken n rest D (length ps) F ps)
       (taken-keeps rest (suc w) (length ps) F ps (omega arith) (pairs-weigh n weight (suc w)) h)
 
--- What holds of single states and is kept by each pair added holds of the forest of a table.
-pub forest-keeps : (t : List ℕ) (D : ℕ) (P : Trees → Type 0) → Keeps (states t) D (weight t) P → P singles → P (forest t D)
+-- What holds of single states and is kept by each pair added holds of the forest of a table, in any order.
+pub forest-keeps : (t : List ℕ) (order D : ℕ) (P : Trees → Type 0) → Keeps (states t) D (weight t) P → P singles → P (forest t order D)
 unfolding forest
-forest-keeps t D P kept h = falling-keeps (states t) D (weight t) P kept (rest (states t)) (classes t - 1) singles h
+forest-keeps t order D P kept h = falling-keeps (states t) D (weight t) P kept (rest order (states t)) (classes t - 1) singles h

@@ -55,6 +55,6 @@ added-grown n D weight F u v g A =
     }
 
 -- The forest of a table with path bound D is such trees.
-pub forest-grown : (t : List ℕ) (D : ℕ) → Grown (states t) D (forest t D)
-forest-grown t D =
-    forest-keeps t D (Grown (states t) D) (added-grown (states t) D (weight t)) (singles-grown (states t) D)
+pub forest-grown : (t : List ℕ) (order D : ℕ) → Grown (states t) D (forest t order D)
+forest-grown t order D =
+    forest-keeps t order D (Grown (states t) D) (added-grown (states t) D (weight t)) (singles-grown (states t) D)

@@ -3,6 +3,7 @@ pub mod Seen
 pub mod JoinMetric
 pub mod Inside
 pub mod Named
+pub mod TreeCount
 pub mod InTree
 pub mod Farthest
 pub mod Longest
@@ -12,6 +13,10 @@ pub mod Pairs
 pub mod Greedy
 pub mod TrueDistances
 pub mod Grown
+pub mod Viable
+pub mod Earlier
+pub mod Ahead
+pub mod Best
 pub mod Order
 pub mod Roots
 pub mod Radius

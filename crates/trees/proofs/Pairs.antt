@@ -10,6 +10,7 @@ use borrow.Author.Tests.{ltb-true, eqb-true}
 use Rattle.paper.specs.Below.{each}
 use Rattle.paper.specs.Paths.{Among}
 use Rattle.paper.specs.Forest.{Trees, pairs, without, nextPair}
+use Rattle.paper.specs.BestPair.{Weighs}
 use Rattle.paper.proofs.Below.{and-true}
 use Rattle.paper.proofs.Paths.{among-append}
 
@@ -36,19 +37,13 @@ without-among p r (q ∷ qs) a = go (eqb (p .0) (q .0) && eqb (p .1) (q .1)) a (
     go false (inr a) ih = inr (ih a)
 
 -- What is in the lists of the numbers below n is in one of them.
-each-among : (n : ℕ) (f : ℕ → List (ℕ × ℕ)) (p : ℕ × ℕ) → Among p (each n f) → (i : ℕ) × (i < n) × Among p (f i)
+pub each-among : (n : ℕ) (f : ℕ → List (ℕ × ℕ)) (p : ℕ × ℕ) → Among p (each n f) → (i : ℕ) × (i < n) × Among p (f i)
 each-among (suc n) f p a = go (among-append p (each n f) (f n) a) (each-among n f p)
   where
     go : Among p (each n f) ⊎ Among p (f n) → (Among p (each n f) → (i : ℕ) × (i < n) × Among p (f i))
         → (i : ℕ) × (i < suc n) × Among p (f i)
     go (inl b) ih = let (i, l, c) = ih b in (i, omega arith, c)
     go (inr b) ih = (n, omega arith, b)
-
--- A pair of weight w: the first state below the second, the second below n.
-pub record Weighs (n : ℕ) (weight : ℕ → ℕ → ℕ) (w : ℕ) (p : ℕ × ℕ) : Type 0 where
-  pub rising : p .0 < p .1
-  pub inside : p .1 < n
-  pub heavy : weight (p .0) (p .1) ≡ w
 
 -- The pairs listed for a weight are such pairs.
 pub pairs-weigh : (n : ℕ) (weight : ℕ → ℕ → ℕ) (w : ℕ) (p : ℕ × ℕ) → Among p (pairs n weight w) → Weighs n weight w p

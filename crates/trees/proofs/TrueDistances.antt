@@ -13,8 +13,8 @@ use Rattle.trees.proofs.Longest.{longest-upper, longest-attained}
 use Rattle.trees.proofs.Greedy.{forest-keeps}
 
 -- The distances of the forest of a table with path bound D.
-pub distances-true : (t : List ℕ) (D : ℕ) → TrueDistances (forest t D)
-distances-true t D = forest-keeps t D TrueDistances (λ F u v T A. joined-true F T u v (A .apart)) singles-true
+pub distances-true : (t : List ℕ) (order D : ℕ) → TrueDistances (forest t order D)
+distances-true t order D = forest-keeps t order D TrueDistances (λ F u v T A. joined-true F T u v (A .apart)) singles-true
 
 module _ (F : Trees) (T : TrueDistances F) (n x : ℕ) where
   -- No path from x that takes no pair twice is longer than d.

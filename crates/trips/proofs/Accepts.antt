@@ -2,7 +2,7 @@
 use mathlib.Core.Path.{_≡_, refl, ap}
 use mathlib.Core.Bool.{false, not, _||_}
 use mathlib.Core.Option.{Option, none, some}
-use mathlib.Core.List.{List, [], _∷_}
+use mathlib.Core.List.{List, [], _∷_, _++_}
 use Prim.Native.Nat.{ℕ, _+_, _*_, _/_, _≤_, _<_}
 use lib.Dec.{ltb}
 use lib.ListN.{length}
@@ -74,8 +74,9 @@ write-accepts t ds room W e h =
     below s hs (some d) q = lt-leb n d (W .inside s d hs q)
 
 -- What compact accepts can be written with the forest's defaults.
-pub compact-writable : (t : List ℕ) (D room : ℕ) → first (compactGrounds t D room) ≡ 0 → Writable t (defaults t D)
+pub compact-writable : (t : List ℕ) (order D room : ℕ) → first (compactGrounds t order D room) ≡ 0 → Writable t (defaults t order D)
 unfolding compactGrounds tableGrounds judgeTable
-compact-writable t D room e =
-    let own : List Ground = (17, ltb ((D + 1) / 2) (depthOf (tableView t (defaults t D)))) ∷ (16, ltb room (length (compacted t D))) ∷ [] in
-    forest-writable t D (first-both (tableGrounds t) own refl e .0)
+compact-writable t order D room e =
+    let known : List Ground = (18, ltb 2 order) ∷ [] in
+    let own : List Ground = (17, ltb ((D + 1) / 2) (depthOf (tableView t (defaults t order D)))) ∷ (16, ltb room (length (compacted t order D))) ∷ [] in
+    forest-writable t order D (first-both (tableGrounds t) own refl (first-both known (tableGrounds t ++ own) refl e .1) .0)

@@ -30,12 +30,12 @@ write-leaves t ds room e =
     (w, write-writable t ds (length room) z)
 
 -- What compact leaves is the image of the table with the forest's defaults, which can be written.
-pub compact-leaves : (t : List ℕ) (D : ℕ) (room : List ℕ) → compact t D room .number ≡ 0
-    → (result (compact t D room) ≡ imageOf t (defaults t D)) × Writable t (defaults t D)
+pub compact-leaves : (t : List ℕ) (order D : ℕ) (room : List ℕ) → compact t order D room .number ≡ 0
+    → (result (compact t order D room) ≡ imageOf t (defaults t order D)) × Writable t (defaults t order D)
 unfolding compact compacted
-compact-leaves t D room e =
-    let (z, w) = built-result (first (compactGrounds t D (length room))) (compacted t D) room e in
-    (w, compact-writable t D (length room) z)
+compact-leaves t order D room e =
+    let (z, w) = built-result (first (compactGrounds t order D (length room))) (compacted t order D) room e in
+    (w, compact-writable t order D (length room) z)
 
 -- Expand of what write leaves gives the table.
 pub expand-write : (t ds room room′ : List ℕ) → Bytes t → write t ds room .number ≡ 0 → length t ≤ length room′
@@ -45,11 +45,11 @@ expand-write t ds room room′ B e h =
     ap (λ (b : List ℕ). expand b room′) w ∙ expand-image t (listed ds) room′ B W h
 
 -- Expand of what compact leaves gives the table.
-pub expand-compact : (t : List ℕ) (D : ℕ) (room room′ : List ℕ) → Bytes t → compact t D room .number ≡ 0 → length t ≤ length room′
-    → expand (result (compact t D room)) room′ ≡ building 0 t room′
-expand-compact t D room room′ B e h =
-    let (w, W) = compact-leaves t D room e in
-    ap (λ (b : List ℕ). expand b room′) w ∙ expand-image t (defaults t D) room′ B W h
+pub expand-compact : (t : List ℕ) (order D : ℕ) (room room′ : List ℕ) → Bytes t → compact t order D room .number ≡ 0 → length t ≤ length room′
+    → expand (result (compact t order D room)) room′ ≡ building 0 t room′
+expand-compact t order D room room′ B e h =
+    let (w, W) = compact-leaves t order D room e in
+    ap (λ (b : List ℕ). expand b room′) w ∙ expand-image t (defaults t order D) room′ B W h
 
 -- So with what is promised: the numbers and the room that write leaves, and those that expand leaves of its result.
 pub expands-back : (t ds room room′ : List ℕ) (number l number′ l′ : ℕ) (r r′ : List ℕ) → Bytes t
@@ -59,8 +59,8 @@ expands-back t ds room room′ number l number′ l′ r r′ B P e Q h =
     result-promised (λ b. expand b room′) P Q (expand-write t ds room room′ B (sym (P .number-is) ∙ e) h)
 
 -- So with compact.
-pub compact-expands-back : (t : List ℕ) (D : ℕ) (room room′ : List ℕ) (number l number′ l′ : ℕ) (r r′ : List ℕ) → Bytes t
-    → Compacts t D room number l r → number ≡ 0 → Expands (take l r) room′ number′ l′ r′ → length t ≤ length room′
+pub compact-expands-back : (t : List ℕ) (order D : ℕ) (room room′ : List ℕ) (number l number′ l′ : ℕ) (r r′ : List ℕ) → Bytes t
+    → Compacts t order D room number l r → number ≡ 0 → Expands (take l r) room′ number′ l′ r′ → length t ≤ length room′
     → IsBuilt (building 0 t room′) number′ l′ r′
-compact-expands-back t D room room′ number l number′ l′ r r′ B P e Q h =
-    result-promised (λ b. expand b room′) P Q (expand-compact t D room room′ B (sym (P .number-is) ∙ e) h)
+compact-expands-back t order D room room′ number l number′ l′ r r′ B P e Q h =
+    result-promised (λ b. expand b room′) P Q (expand-compact t order D room room′ B (sym (P .number-is) ∙ e) h)

@@ -9,10 +9,10 @@ use Rattle.trees.proofs.Defaults.{defaults-below, defaults-chain}
 use Rattle.trips.proofs.Writable.{Writable}
 
 -- An accepted table with the forest's defaults can be written.
-pub forest-writable : (t : List ℕ) (D : ℕ) → judgeTable t ≡ 0 → Writable t (defaults t D)
-forest-writable t D e =
+pub forest-writable : (t : List ℕ) (order D : ℕ) → judgeTable t ≡ 0 → Writable t (defaults t order D)
+forest-writable t order D e =
     record {
       judged = e;
-      inside = λ s d hs q. defaults-below t D s d q;
-      ends = λ s hs. let (l, q, _) = defaults-chain t D (tableView t (defaults t D)) (λ x k. refl) s hs in (l, q);
+      inside = λ s d hs q. defaults-below t order D s d q;
+      ends = λ s hs. let (l, q, _) = defaults-chain t order D (tableView t (defaults t order D)) (λ x k. refl) s hs in (l, q);
     }

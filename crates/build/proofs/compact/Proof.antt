@@ -1,5 +1,6 @@
--- Each ground in its order: the table's, 17, 16; past them the image of the forest's defaults.
+-- Each ground in its order: 18, the table's, 17, 16; past them the image of the forest's defaults.
 use mathlib.Core.Path.{_≡_, sym, _∙_}
+use Prim.Native.Nat.{_≤_}
 use mathlib.Core.Bool.{false}
 use denote.Ref.{now}
 use native.Mathlib.Omega.{arith}
@@ -7,30 +8,42 @@ use Rattle.paper.specs.Operations.{judgeTable}
 use Rattle.facts.proofs.TableFacts.{accepted-table}
 use Rattle.chains.specs.Orders.{InRange}
 use Rattle.build.proofs.Lists.{list-ordered}
-use Rattle.build.proofs.Chosen.{chosen-range, chosen-ends, compact-judged, compact-deep, compact-fills}
+use Rattle.build.proofs.Chosen.{chosen-range, chosen-ends, compact-unknown, compact-judged, compact-deep, compact-fills}
 use Rattle.build.proofs.compact.Statement.{statement}
 use Rattle.build.proofs.compact.Tie as tie
 
 -- The function's entry, from where the table is judged.
 abbrev begun : tie.After-judge-table → tie.Start
-begun c = c .before .before .before
+begun c = c .before .before .before .before
+
+-- Past ground 18 the order is known.
+known : (c : tie.After-judge-table) → begun c .args .order ≤ 2
+known c = c .before .if1 .left
 
 -- Past the table's grounds the table is accepted.
-accepted : (c : tie.Else1) → judgeTable (now (begun (c .before) .args .table)) ≡ 0
-accepted c = sym (c .before .judge-table .ensures) ∙ c .if1 .left
-
-judge-table-requires : tie.Need-judge-table-requires
-judge-table-requires c κs = tt
+accepted : (c : tie.Else2) → judgeTable (now (begun (c .before) .args .table)) ≡ 0
+accepted c = sym (c .before .judge-table .ensures) ∙ c .if2 .left
 
 not-built-requires : tie.Need-not-built-requires
 not-built-requires c κs = tt
 
 returns : tie.Need-returns
 returns c =
+    let a = c .before .before .before .before .args in
+    compact-unknown (now (a .table)) (a .order) (a .bound) (now (a .room)) _ _ (c .before .if1 .taken) (c .not-built .ensures .0) (c .not-built .ensures .1)
+
+judge-table-requires : tie.Need-judge-table-requires
+judge-table-requires c κs = tt
+
+not-built-requires-2 : tie.Need-not-built-requires-2
+not-built-requires-2 c κs = tt
+
+returns-2 : tie.Need-returns-2
+returns-2 c =
     let judged = c .before .before in
     let a = begun judged .args in
-    compact-judged (now (a .table)) (a .bound) (now (a .room)) _ _
-    (c .not-built .ensures .0 ∙ judged .judge-table .ensures) (λ e. c .before .if1 .taken (sym (c .not-built .ensures .0) ∙ e)) (c .not-built .ensures .1)
+    compact-judged (now (a .table)) (a .order) (a .bound) (now (a .room)) _ _ (known judged)
+    (c .not-built2 .ensures .0 ∙ judged .judge-table .ensures) (λ e. c .before .if2 .taken (sym (c .not-built2 .ensures .0) ∙ e)) (c .not-built2 .ensures .1)
 
 get16-requires : tie.Need-get16-requires
 get16-requires c κs = omega (arith, accepted-table (now (begun (c .before) .args .table)) (accepted c) .long)
@@ -44,6 +57,9 @@ get16-requires-2 c κs = let d = c .before in omega (arith, accepted-table (now 
 cast-k : tie.Need-cast-k
 cast-k c = omega arith
 
+cast-defaults-of : tie.Need-cast-defaults-of
+cast-defaults-of c = omega (arith, known (c .before .before .before))
+
 defaults-of-requires : tie.Need-defaults-of-requires
 defaults-of-requires c κs =
     let d = c .before .before in
@@ -53,7 +69,7 @@ defaults-of-requires c κs =
 range : (c : tie.After-defaults-of) → InRange (c .before .before .get16 .result) (c .defaults-of .result)
 range c =
     let a = begun (c .before .before .before .before) .args in
-    chosen-range (now (a .table)) (a .bound) (c .before .before .get16 .result) (c .defaults-of .result) (c .before .before .get16 .ensures) (c .defaults-of .ensures)
+    chosen-range (now (a .table)) (a .order) (a .bound) (c .before .before .get16 .result) (c .defaults-of .result) (c .before .before .get16 .ensures) (c .defaults-of .ensures)
 
 -- No chain of them is endless.
 ends : (c : tie.After-order-of) → c .order-of .result .endless ≡ false
@@ -61,7 +77,7 @@ ends c =
     let chosen = c .before .before in
     let read = chosen .before .before in
     let a = begun (read .before .before) .args in
-    c .order-of .ensures .0 ∙ chosen-ends (now (a .table)) (a .bound) (read .get16 .result) (chosen .defaults-of .result) (read .get16 .ensures) (chosen .defaults-of .ensures)
+    c .order-of .ensures .0 ∙ chosen-ends (now (a .table)) (a .order) (a .bound) (read .get16 .result) (chosen .defaults-of .result) (read .get16 .ensures) (chosen .defaults-of .ensures)
 
 order-of-requires : tie.Need-order-of-requires
 order-of-requires c κs =
@@ -69,20 +85,20 @@ order-of-requires c κs =
     let d = read .before in
     (omega (arith, read .get16 .ensures, accepted-table (now (begun (d .before) .args .table)) (accepted d) .few-states), range (c .before))
 
-add-if2 : tie.Need-add-if2
-add-if2 c = omega arith
+add-if3 : tie.Need-add-if3
+add-if3 c = omega arith
 
-not-built-requires-2 : tie.Need-not-built-requires-2
-not-built-requires-2 c κs = tt
+not-built-requires-3 : tie.Need-not-built-requires-3
+not-built-requires-3 c κs = tt
 
-returns-2 : tie.Need-returns-2
-returns-2 c =
+returns-3 : tie.Need-returns-3
+returns-3 c =
     let order = c .before .before .before in
     let chosen = order .before .before in
     let read = chosen .before .before in
     let a = begun (read .before .before) .args in
-    compact-deep (now (a .table)) (a .bound) (now (a .room)) _ _ (accepted (read .before)) (read .get16 .result) (chosen .defaults-of .result) (read .get16 .ensures) (chosen .defaults-of .ensures)
-    (order .order-of .result .depth) (order .order-of .ensures .1 (ends order) .0) (c .before .if2 .taken) (c .not-built2 .ensures .0) (c .not-built2 .ensures .1)
+    compact-deep (now (a .table)) (a .order) (a .bound) (now (a .room)) _ _ (known (read .before .before)) (accepted (read .before)) (read .get16 .result) (chosen .defaults-of .result) (read .get16 .ensures) (chosen .defaults-of .ensures)
+    (order .order-of .result .depth) (order .order-of .ensures .1 (ends order) .0) (c .before .if3 .taken) (c .not-built3 .ensures .0) (c .not-built3 .ensures .1)
 
 image-into-requires : tie.Need-image-into-requires
 image-into-requires c κs =
@@ -95,33 +111,36 @@ image-into-requires c κs =
 same-length : tie.Need-same-length
 same-length c = c .before .room .given
 
-returns-3 : tie.Need-returns-3
-returns-3 c =
+returns-4 : tie.Need-returns-4
+returns-4 c =
     let image = c .before .before in
     let tested = image .before .before .before .before .before in
     let order = tested .before .before in
     let chosen = order .before .before in
     let read = chosen .before .before in
     let a = begun (read .before .before) .args in
-    compact-fills (now (a .table)) (a .bound) (now (a .room)) _ _ (accepted (read .before)) (read .get16 .result) (chosen .defaults-of .result) (read .get16 .ensures) (chosen .defaults-of .ensures)
-    (order .order-of .result .depth) (order .order-of .ensures .1 (ends order) .0) _ (tested .if2 .left) (image .image-into .ensures)
+    compact-fills (now (a .table)) (a .order) (a .bound) (now (a .room)) _ _ (known (read .before .before)) (accepted (read .before)) (read .get16 .result) (chosen .defaults-of .result) (read .get16 .ensures) (chosen .defaults-of .ensures)
+    (order .order-of .result .depth) (order .order-of .ensures .1 (ends order) .0) _ (tested .if3 .left) (image .image-into .ensures)
 
 pub compact-spec : {M : Type 1} → statement M
 compact-spec =
     tie.close
     (tie.spec
-    judge-table-requires
     not-built-requires
     returns
+    judge-table-requires
+    not-built-requires-2
+    returns-2
     get16-requires
     cast-n
     get16-requires-2
     cast-k
+    cast-defaults-of
     defaults-of-requires
     order-of-requires
-    add-if2
-    not-built-requires-2
-    returns-2
+    add-if3
+    not-built-requires-3
+    returns-3
     image-into-requires
     same-length
-    returns-3)
+    returns-4)

@@ -42,7 +42,7 @@ returns c =
     let a = s .args in
     let f₀ = single .single-states .result in
     let f = taken .take-all .result in
-    chosen-defaults (now (a .t)) (a .n) (a .k) (a .bound) (s .pre .0) (s .pre .1) (s .pre .2) (weighed .weigh-all .last .1 .1 .1 .0)
+    chosen-defaults (now (a .t)) (a .n) (a .k) (a .order) (a .bound) (s .pre .0) (s .pre .1) (s .pre .2) (weighed .weigh-all .last .1 .1 .1 .0)
     (f₀ .d) (f₀ .parent) (f₀ .tree) (f .d) (f .parent) (f .tree) (settled .settle .result) (c .pointers .result)
     (weighed .weigh-all .ensures) (single .single-states .ensures) (taken .take-all .ensures) (settled .settle .ensures) (c .pointers .ensures)
 

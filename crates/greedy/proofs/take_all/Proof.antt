@@ -1,65 +1,87 @@
--- The invariant of the loop: the weights above w are taken.
+-- The invariant of the loop: the weights above `at` are taken.
+use mathlib.Core.Path.{sym, subst}
+use mathlib.Core.Logic.{⊎-elim}
+use Prim.Native.Nat.{_*_, _≤_, _-_}
 use native.Mathlib.Omega.{arith}
 use borrow.Author.Needs.{needs}
 use denote.Ref.{now}
+use lib.ListN.{getD}
+use Rattle.paper.specs.Forest.{rest}
+use Rattle.joining.specs.declared.Forest.{Forest}
 use Rattle.greedy.specs.Good.{weightIn}
-use Rattle.greedy.proofs.Absent.{unseen-absent}
+use Rattle.greedy.proofs.Weights.{named-own}
+use Rattle.greedy.proofs.Absent.{unseen-absent, becomes-absent}
 use Rattle.greedy.proofs.Falls.{Falls, falls-start, falls-more, falls-end}
 use Rattle.greedy.proofs.take_all.Statement.{statement}
 use Rattle.greedy.proofs.take_all.Tie as tie
 
 abbrev Inv-loop : tie.InvT-loop
-Inv-loop weights n bound top seen f₀ w₀ f w = Falls n bound (weightIn weights) top w (f₀ .d) (f₀ .parent) (f₀ .tree) (f .d) (f .parent) (f .tree)
+Inv-loop weights n order bound top seen f₀ at₀ f at =
+    (at ≤ 255) × Falls n (rest order n) bound (weightIn weights) top at (f₀ .d) (f₀ .parent) (f₀ .tree) (f .d) (f .parent) (f .tree)
 
 abbrev μ-loop : tie.MeasureT-loop
-μ-loop weights n bound top seen f₀ w₀ f w = w
+μ-loop weights n order bound top seen f₀ at₀ f at = at
 
 weights-seen-requires : tie.Need-weights-seen-requires Inv-loop μ-loop
 weights-seen-requires c κs = c .pre .0
 
+wide-requires : tie.Need-wide-requires Inv-loop μ-loop
+wide-requires c κs = tt
+
+cast-at : tie.Need-cast-at Inv-loop μ-loop
+cast-at c = omega (arith, c .wide .ensures .1)
+
 loop-holds : tie.Need-loop-holds Inv-loop μ-loop
 loop-holds c =
-    let a = c .before .args in
-    falls-start (a .n) (a .bound) (weightIn (now (a .weights))) (a .top) (a .f0 .d) (a .f0 .parent) (a .f0 .tree) (record { low = c .before .pre .1; long-far = search needs; long-tree = search needs })
-
-wide-requires : tie.Need-wide-requires Inv-loop μ-loop
-wide-requires c κs = omega arith
-
-cast-some : tie.Need-cast-some Inv-loop μ-loop
-cast-some c = omega arith
-
-array-read-some : tie.Need-array-read-some Inv-loop μ-loop
-array-read-some c = omega arith
-
-take-seen-requires : tie.Need-take-seen-requires Inv-loop μ-loop
-take-seen-requires c κs =
-    let l = c .before .before in
-    let s = l .before .before in (
-      s .pre .0,
-      l .loop .inv .becomes .whole .low,
-      λ e. unseen-absent (l .before .weights-seen .result) (now (s .args .weights)) (s .args .n) (l .loop .w) (s .pre .0) (omega (arith, c .wide .ensures .0, c .wide .ensures .1)) (l .before .weights-seen .ensures) (rw (c .wide .ensures .0) at e),
+    let s = c .before .before in
+    let a = s .args in (
+      omega (arith, c .wide .ensures .1),
+      rw (c .wide .ensures .0) (falls-start (a .n) (rest (a .order) (a .n)) (a .bound) (weightIn (now (a .weights))) (a .top) (a .f0 .d) (a .f0 .parent) (a .f0 .tree)
+          (record { low = s .pre .1; long-far = search needs; long-tree = search needs })),
     )
 
-sub-w : tie.Need-sub-w Inv-loop μ-loop
-sub-w c = omega arith
+array-read-w : tie.Need-array-read-w Inv-loop μ-loop
+array-read-w c = omega (arith, c .before .loop .inv .0)
+
+take-weight-requires : tie.Need-take-weight-requires Inv-loop μ-loop
+take-weight-requires c κs =
+    let l = c .before .before in
+    (l .before .before .before .pre .0, l .loop .inv .1 .becomes .whole .low)
+
+sub-at : tie.Need-sub-at Inv-loop μ-loop
+sub-at c = omega (arith, c .before .loop-test .taken)
 
 loop-less : tie.Need-loop-less Inv-loop μ-loop
-loop-less c = omega arith
+loop-less c = omega (arith, c .before .loop-test .taken)
 
 loop-again : tie.Need-loop-again Inv-loop μ-loop
 loop-again c =
-    let l = c .before .before .before in
-    let a = l .before .before .args in
-    let r = c .take-seen .result in
-    falls-more (a .n) (a .bound) (weightIn (now (a .weights))) (a .top) (l .loop .w) (a .f0 .d) (a .f0 .parent) (a .f0 .tree) (l .loop .f .d) (l .loop .f .parent) (l .loop .f .tree)
-    (l .loop .inv) (c .before .before .loop-test .taken) (r .d) (r .parent) (r .tree) (c .take-seen .ensures)
+    let l = c .before .before in
+    let s = l .before .before .before in
+    let a = s .args in
+    let f = l .loop .f in
+    let at = l .loop .at in
+    let some = c .before .loop-test .taken in
+    let seen = l .before .before .weights-seen in
+    let small : at ≤ 255 = l .loop .inv .0 in
+    let more = falls-more (a .n) (rest (a .order) (a .n)) (a .bound) (weightIn (now (a .weights))) (a .top) at (a .f0 .d) (a .f0 .parent) (a .f0 .tree) (f .d) (f .parent) (f .tree) (l .loop .inv .1) some in
+    let held : Forest → Type 0 = λ (g : Forest). Falls (a .n) (rest (a .order) (a .n)) (a .bound) (weightIn (now (a .weights))) (a .top) (at - 1) (a .f0 .d) (a .f0 .parent) (a .f0 .tree) (g .d) (g .parent) (g .tree) in (
+      omega arith,
+      ⊎-elim
+          (λ w. subst held (sym (w .2)) (more (w .1 .result .d) (w .1 .result .parent) (w .1 .result .tree)
+          (rw (named-own (seen .result) (λ j. getD (now (a .weights)) j 0) (a .n * 512) at (omega arith) (seen .ensures) (w .0 .taken)) at (w .1 .ensures))))
+          (λ w. subst held (sym (w .1)) (more (f .d) (f .parent) (f .tree)
+          (becomes-absent (a .n) (rest (a .order) (a .n)) (a .bound) (weightIn (now (a .weights))) at
+          (unseen-absent (seen .result) (now (a .weights)) (a .n) at (s .pre .0) (omega arith) some (seen .ensures) (w .0 .left)) (f .d) (f .parent) (f .tree) (l .loop .inv .1 .becomes .whole))))
+          (c .if1 .came),
+    )
 
 returns : tie.Need-returns Inv-loop μ-loop
 returns c =
-    let a = c .before .before .before .args in
+    let a = c .before .before .before .before .args in
     let l = c .before .loop in
-    falls-end (a .n) (a .bound) (weightIn (now (a .weights))) (a .top) (l .w) (a .f0 .d) (a .f0 .parent) (a .f0 .tree) (l .f .d) (l .f .parent) (l .f .tree)
-    (l .inv) (omega arith)
+    falls-end (a .n) (rest (a .order) (a .n)) (a .bound) (weightIn (now (a .weights))) (a .top) (l .at) (a .f0 .d) (a .f0 .parent) (a .f0 .tree) (l .f .d) (l .f .parent) (l .f .tree)
+    (l .inv .1) (omega arith)
 
 pub take-all-spec : {M : Type 1} → statement M
 take-all-spec =
@@ -68,12 +90,12 @@ take-all-spec =
     Inv-loop
     μ-loop
     weights-seen-requires
-    loop-holds
     wide-requires
-    cast-some
-    array-read-some
-    take-seen-requires
-    sub-w
+    cast-at
+    loop-holds
+    array-read-w
+    take-weight-requires
+    sub-at
     loop-less
     loop-again
     returns)

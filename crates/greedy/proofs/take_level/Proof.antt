@@ -1,15 +1,16 @@
--- The invariant of the outer loop: the first u rows are taken. That of the inner loop: of row u the pairs before v are taken.
-use Prim.Native.Nat.{_≤_, _<_, _-_}
-use mathlib.Core.Path.{_≡_}
+-- The invariant of the outer loop: the first u rows are taken. That of the inner loop: of row u the pairs before v are taken; those of another weight are passed over.
+use Prim.Native.Nat.{_+_, _≤_, _<_, _-_}
+use mathlib.Core.Path.{_≡_, sym, subst}
 use mathlib.Core.Logic.{⊎-elim}
 use native.Mathlib.Omega.{arith}
 use borrow.Author.Needs.{needs}
 use denote.Ref.{now}
 use lib.ListN.{getD}
 use Rattle.paper.specs.Levels.{row, rows}
+use Rattle.joining.specs.declared.Forest.{Forest}
 use Rattle.greedy.specs.Good.{Becomes, weightIn}
 use Rattle.greedy.proofs.Pair.{taken-short}
-use Rattle.greedy.proofs.Rows.{rows-start, row-starts, row-dropped, row-added, rows-more}
+use Rattle.greedy.proofs.Rows.{rows-start, row-starts, row-dropped, row-added, row-passed, rows-more, rows-end}
 use Rattle.greedy.proofs.take_level.Statement.{statement}
 use Rattle.greedy.proofs.take_level.Tie as tie
 
@@ -30,16 +31,21 @@ loop-holds c =
     let a = c .args in
     (omega arith, rows-start (a .n) (a .bound) (weightIn (now (a .weights))) (a .w) (a .f0 .d) (a .f0 .parent) (a .f0 .tree) (record { low = c .pre .1; long-far = search needs; long-tree = search needs }))
 
-add-v : tie.Need-add-v Inv-loop2 μ-loop2 Inv-loop μ-loop
-add-v c = omega arith
+add-next-of : tie.Need-add-next-of Inv-loop2 μ-loop2 Inv-loop μ-loop
+add-next-of c = omega arith
+
+next-of-requires : tie.Need-next-of-requires Inv-loop2 μ-loop2 Inv-loop μ-loop
+next-of-requires c κs = search needs
 
 loop2-holds : tie.Need-loop2-holds Inv-loop2 μ-loop2 Inv-loop μ-loop
 loop2-holds c =
-    let a = c .before .before .args in
-    let l = c .before .loop in (
-      omega arith,
-      omega arith,
-      row-starts (a .n) (a .bound) (weightIn (now (a .weights))) (a .w) (l .f .d) (l .f .parent) (l .f .tree) (l .inv .1 .whole) (l .u),
+    let a = c .before .before .before .args in
+    let l = c .before .before .loop in
+    let found = c .next-of .ensures in (
+      omega (arith, found .behind),
+      found .within,
+      row-passed (a .n) (a .bound) (weightIn (now (a .weights))) (a .w) (l .u) (l .f .d) (l .f .parent) (l .f .tree) (l .f .d) (l .f .parent) (l .f .tree) (l .u + 1) (c .next-of .result) (found .behind) (found .passed)
+          (row-starts (a .n) (a .bound) (weightIn (now (a .weights))) (a .w) (l .f .d) (l .f .parent) (l .f .tree) (l .inv .1 .whole) (l .u)),
     )
 
 mul-takes : tie.Need-mul-takes Inv-loop2 μ-loop2 Inv-loop μ-loop
@@ -81,38 +87,67 @@ takes-requires c κs = search needs
 join-requires : tie.Need-join-requires Inv-loop2 μ-loop2 Inv-loop μ-loop
 join-requires c κs =
     let inner = c .before .before .before .before .before .before .before .before in
-    let s = inner .before .before .before in
+    let s = inner .before .before .before .before in
     let a = s .args in
     let l = inner .loop2 in
-    let u = inner .before .before .loop .u in
+    let u = inner .before .before .before .loop .u in
     let short = taken-short (weightIn (now (a .weights)) u (l .v)) (a .w) (getD (l .f .tree) u 0) (getD (l .f .tree) (l .v) 0)
     (getD (l .f .d) u 0) (getD (l .f .d) (l .v) 0) (a .bound) (c .before .takes .result) (c .before .takes .ensures) (c .if1 .taken) in
-    let ub : u < a .n = omega (arith, inner .before) in
+    let ub : u < a .n = omega (arith, inner .before .before) in
     let vb : l .v < a .n = omega (arith, c .before .before .before .before .before .before .before) in
     (s .pre .0, ub, vb, l .inv .2 .whole .low, omega (arith, short, s .fits .bound))
 
-add-v-2 : tie.Need-add-v-2 Inv-loop2 μ-loop2 Inv-loop μ-loop
-add-v-2 c = omega arith
+add-next-of-2 : tie.Need-add-next-of-2 Inv-loop2 μ-loop2 Inv-loop μ-loop
+add-next-of-2 c = omega arith
+
+-- The place at the head of the inner loop, from that behind a pair that was tried.
+abbrev head : tie.Joined1 Inv-loop2 μ-loop2 Inv-loop μ-loop → tie.At-loop2 Inv-loop2 μ-loop2 Inv-loop μ-loop
+head c = c .before .before .before .before .before .before .before .before
+
+-- A pair was tried, so there is one.
+tried : (c : tie.Joined1 Inv-loop2 μ-loop2 Inv-loop μ-loop) → head c .loop2 .v < head c .before .before .before .before .args .n
+tried c = c .before .before .before .before .before .before .before .loop2-test .taken
+
+next-of-requires-2 : tie.Need-next-of-requires-2 Inv-loop2 μ-loop2 Inv-loop μ-loop
+next-of-requires-2 c κs =
+    let inner = head c in
+    let s = inner .before .before .before .before in
+    (s .pre .0, omega (arith, inner .before .before .loop-test .taken, s .pre .0), omega (arith, tried c))
 
 loop2-less : tie.Need-loop2-less Inv-loop2 μ-loop2 Inv-loop μ-loop
-loop2-less c = omega arith
+loop2-less c = omega (arith, c .next-of2 .ensures .behind, tried (c .before))
+
+-- The pair that was tried is taken.
+turned : (c : tie.Joined1 Inv-loop2 μ-loop2 Inv-loop μ-loop)
+    → let inner = head c in
+    let a = inner .before .before .before .before .args in
+    let outer = inner .before .before .before .loop in
+    Becomes (a .n) (a .bound) (λ F. row (a .n) (a .bound) (weightIn (now (a .weights))) (a .w) (outer .u) F (inner .loop2 .v + 1)) (outer .f .d) (outer .f .parent) (outer .f .tree) (c .if1 .f .d) (c .if1 .f .parent) (c .if1 .f .tree)
+turned c =
+    let inner = head c in
+    let a = inner .before .before .before .before .args in
+    let l = inner .loop2 in
+    let u = inner .before .before .before .loop .u in
+    let f = inner .before .before .before .loop .f in
+    let held : Forest → Type 0 = λ (g : Forest). Becomes (a .n) (a .bound) (λ F. row (a .n) (a .bound) (weightIn (now (a .weights))) (a .w) u F (l .v + 1)) (f .d) (f .parent) (f .tree) (g .d) (g .parent) (g .tree) in
+    ⊎-elim
+    (λ w. subst held (sym (w .2)) (row-added (a .n) (a .bound) (weightIn (now (a .weights))) (a .w) u (f .d) (f .parent) (f .tree) (l .f .d) (l .f .parent) (l .f .tree)
+    (l .v) (l .inv .0) (tried c) (l .inv .2) _ (c .before .takes .ensures) (w .0 .taken) (w .1 .result .d) (w .1 .result .parent) (w .1 .result .tree) (w .1 .ensures)))
+    (λ w. subst held (sym (w .1)) (row-dropped (a .n) (a .bound) (weightIn (now (a .weights))) (a .w) u (f .d) (f .parent) (f .tree) (l .f .d) (l .f .parent) (l .f .tree)
+    (l .v) (l .inv .0) (tried c) (l .inv .2) _ (c .before .takes .ensures) (w .0 .left)))
+    (c .if1 .came)
 
 loop2-again : tie.Need-loop2-again Inv-loop2 μ-loop2 Inv-loop μ-loop
 loop2-again c =
-    let inner = c .before .before .before .before .before .before .before .before in
-    let a = inner .before .before .before .args in
-    let l = inner .loop2 in
-    let u = inner .before .before .loop .u in
-    let f = inner .before .before .loop .f in
-    let vb : l .v < a .n = omega (arith, c .before .before .before .before .before .before .before) in (
-      omega arith,
-      omega arith,
-      ⊎-elim
-          (λ w. rw (w .2) (row-added (a .n) (a .bound) (weightIn (now (a .weights))) (a .w) u (f .d) (f .parent) (f .tree) (l .f .d) (l .f .parent) (l .f .tree)
-          (l .v) (l .inv .0) vb (l .inv .2) _ (c .before .takes .ensures) (w .0 .taken) (w .1 .result .d) (w .1 .result .parent) (w .1 .result .tree) (w .1 .ensures)))
-          (λ w. rw (w .1) (row-dropped (a .n) (a .bound) (weightIn (now (a .weights))) (a .w) u (f .d) (f .parent) (f .tree) (l .f .d) (l .f .parent) (l .f .tree)
-          (l .v) (l .inv .0) vb (l .inv .2) _ (c .before .takes .ensures) (w .0 .left)))
-          (c .if1 .came),
+    let inner = head (c .before) in
+    let a = inner .before .before .before .before .args in
+    let outer = inner .before .before .before .loop in
+    let g = c .before .if1 .f in
+    let found = c .next-of2 .ensures in (
+      omega (arith, found .behind, inner .loop2 .inv .0),
+      found .within,
+      row-passed (a .n) (a .bound) (weightIn (now (a .weights))) (a .w) (outer .u) (outer .f .d) (outer .f .parent) (outer .f .tree) (g .d) (g .parent) (g .tree)
+          (inner .loop2 .v + 1) (c .next-of2 .result) (found .behind) (found .passed) (turned (c .before)),
     )
 
 add-u : tie.Need-add-u Inv-loop2 μ-loop2 Inv-loop μ-loop
@@ -123,8 +158,8 @@ loop-less c = omega arith
 
 loop-again : tie.Need-loop-again Inv-loop2 μ-loop2 Inv-loop μ-loop
 loop-again c =
-    let a = c .before .before .before .before .args in
-    let l = c .before .before .before .loop in
+    let a = c .before .before .before .before .before .args in
+    let l = c .before .before .before .before .loop in
     let i = c .before .loop2 in
     let e : i .v ≡ a .n = omega arith in (
       omega arith,
@@ -133,7 +168,11 @@ loop-again c =
     )
 
 returns : tie.Need-returns Inv-loop2 μ-loop2 Inv-loop μ-loop
-returns c = let e : c .before .loop .u ≡ c .before .before .args .n = omega arith in rw e at (c .before .loop .inv .1)
+returns c =
+    let l = c .before .loop in
+    let a = c .before .before .args in
+    let e : l .u ≡ a .n = omega arith in
+    rows-end (a .n) (a .bound) (weightIn (now (a .weights))) (a .w) (a .f0 .d) (a .f0 .parent) (a .f0 .tree) (l .f .d) (l .f .parent) (l .f .tree) (rw e at (l .inv .1))
 
 pub take-level-spec : {M : Type 1} → statement M
 take-level-spec =
@@ -144,7 +183,8 @@ take-level-spec =
     Inv-loop
     μ-loop
     loop-holds
-    add-v
+    add-next-of
+    next-of-requires
     loop2-holds
     mul-takes
     add-takes
@@ -159,7 +199,8 @@ take-level-spec =
     element-copy-out-takes-5
     takes-requires
     join-requires
-    add-v-2
+    add-next-of-2
+    next-of-requires-2
     loop2-less
     loop2-again
     add-u

@@ -1,27 +1,28 @@
--- The loop's invariant: the numbers at the first j places are marked, and no others.
+-- The loop's invariant: the numbers at the first j places stand at their own places, and no others.
 use mathlib.Core.Path.{_≡_, refl}
 use Prim.Native.Nat.{_≤_, _-_, _*_}
 use native.Mathlib.Omega.{arith}
 use denote.Ref.{now}
 use lib.ListN.{length, getD, length-set}
-use Rattle.paper.proofs.Marks.{Seen, seen-nothing, seen-more}
+use Rattle.greedy.specs.Weights.{Named}
+use Rattle.greedy.proofs.Weights.{named-nothing, named-more}
 use Rattle.greedy.proofs.weights_seen.Statement.{statement}
 use Rattle.greedy.proofs.weights_seen.Tie as tie
 
 abbrev Inv-loop : tie.InvT-loop
-Inv-loop weights n seen₀ j₀ seen j = (j ≤ n * 512) × (length seen ≡ 256) × Seen seen (λ i. getD weights i 0) j
+Inv-loop weights n seen₀ j₀ seen j = (j ≤ n * 512) × (length seen ≡ 256) × Named seen (λ i. getD weights i 0) j
 
 abbrev μ-loop : tie.MeasureT-loop
 μ-loop weights n seen₀ j₀ seen j = n * 512 - j
 
 loop-holds : tie.Need-loop-holds Inv-loop μ-loop
-loop-holds c = (omega arith, refl, seen-nothing (λ i. getD (now (c .args .weights)) i 0))
+loop-holds c = (omega arith, refl, named-nothing (λ i. getD (now (c .args .weights)) i 0))
 
 mul-loop : tie.Need-mul-loop Inv-loop μ-loop
 mul-loop c = omega arith
 
-element-copy-out-wide : tie.Need-element-copy-out-wide Inv-loop μ-loop
-element-copy-out-wide c = omega arith
+element-copy-out-w : tie.Need-element-copy-out-w Inv-loop μ-loop
+element-copy-out-w c = omega arith
 
 wide-requires : tie.Need-wide-requires Inv-loop μ-loop
 wide-requires c κs = omega arith
@@ -44,7 +45,7 @@ loop-again c =
     let a = c .before .before .before .before .args in (
       omega arith,
       simp length-set (l .inv .1),
-      seen-more (l .seen) (λ i. getD (now (a .weights)) i 0) (l .j) (c .wide .result) (l .inv .1) (c .wide .ensures .0) (c .wide .ensures .1) (l .inv .2),
+      rw (c .wide .ensures .0) (named-more (l .seen) (λ i. getD (now (a .weights)) i 0) (l .j) (getD (now (a .weights)) (l .j) 0) (l .inv .1) refl (omega (arith, c .wide .ensures .0, c .wide .ensures .1)) (l .inv .2)),
     )
 
 returns : tie.Need-returns Inv-loop μ-loop
@@ -58,7 +59,7 @@ weights-seen-spec =
     μ-loop
     loop-holds
     mul-loop
-    element-copy-out-wide
+    element-copy-out-w
     wide-requires
     cast-seen
     array-write-seen

@@ -1,4 +1,4 @@
--- The promise is that of `build::compact`, on the same bytes and the same bound.
+-- The promise is that of `build::compact`, on the same bytes and the same bound, in order 0.
 use borrow.Author.Needs.{needs}
 use Rattle.kamordast.proofs.kamordast_compact.Statement.{statement}
 use Rattle.kamordast.proofs.kamordast_compact.Tie as tie
