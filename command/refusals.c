@@ -21,10 +21,10 @@ static const struct {
     {"the state is not a state of this image", "begin in the image's own start state"},
     {"the payload has more than 65,536 bytes", "cut the payload and carry the state over from one scan to the next"},
     {"the room for the result is too short", "give a larger room"},
-    {"the depth built exceeds the bound halved and rounded up", "this cannot happen: keep the table and call the engineers"},
+    {0, 0}, /* 17 is not used */
     {"there is no such order", "take order 0, 1 or 2; where none is named it is 0"},
 };
 
-static int known(uint32_t number) { return number < sizeof sheet / sizeof *sheet; }
+static int known(uint32_t number) { return number < sizeof sheet / sizeof *sheet && sheet[number].meaning; }
 const char *refusal_meaning(uint32_t number) { return known(number) ? sheet[number].meaning : "this is no refusal's number"; }
 const char *refusal_advice(uint32_t number) { return known(number) ? sheet[number].advice : "call the engineers"; }

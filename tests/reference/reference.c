@@ -400,16 +400,11 @@ reference_built reference_compact(const uint8_t *t, size_t length, uint32_t orde
     }
     size_t result_length;
     uint8_t *result = image_of(a, fallback, &result_length);
-    uint32_t depth = read16(result, 6);
     free(place);
     free(p);
     free(weight);
     free(a);
     free(f);
-    if (depth > bound / 2 + bound % 2) {
-        free(result);
-        return refuse(17);
-    }
     return fill(result, result_length, room, room_length);
 }
 

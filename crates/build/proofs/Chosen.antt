@@ -4,7 +4,7 @@ use mathlib.Core.Bool.{false, not}
 use mathlib.Core.Logic.{⊎-elim}
 use mathlib.Core.Option.{Option}
 use mathlib.Core.List.{List, [], _∷_}
-use Prim.Native.Nat.{ℕ, _+_, _/_, _%_, _≤_, _<_}
+use Prim.Native.Nat.{ℕ, _≤_, _<_}
 use native.Mathlib.Omega.{arith}
 use lib.Dec.{ltb}
 use lib.ListN.{length}
@@ -12,7 +12,7 @@ use borrow.Author.Tests.{lt-ltb, le-ltb}
 use Rattle.paper.specs.Below.{any, given}
 use Rattle.paper.specs.Refusals.{Ground, first}
 use Rattle.paper.specs.Table.{states}
-use Rattle.paper.specs.View.{View, endless, depthOf}
+use Rattle.paper.specs.View.{View, endless}
 use Rattle.paper.specs.Results.{tableView}
 use Rattle.paper.specs.Forest.{defaults}
 use Rattle.paper.specs.Operations.{judgeTable, compacted, compactGrounds, compact}
@@ -20,10 +20,10 @@ use Rattle.paper.specs.Promises.{Compacts}
 use Rattle.paper.proofs.Below.{any-none}
 use Rattle.trees.proofs.Defaults.{defaults-chain}
 use Rattle.forest.specs.Chosen.{Chosen}
-use Rattle.table.proofs.Decided.{Decided, passed, applies}
+use Rattle.table.proofs.Decided.{Decided}
 use Rattle.chains.specs.Orders.{defaultsView, InRange}
 use Rattle.chains.specs.Sweeps.{Falls}
-use Rattle.chains.proofs.Agrees.{endless-agrees, depth-agrees}
+use Rattle.chains.proofs.Agrees.{endless-agrees}
 use Rattle.build.specs.Measured.{listImage, Fills}
 use Rattle.build.proofs.Lists.{list-falls, list-image}
 use Rattle.build.proofs.Grounds.{refuses, table-refused, table-passed, fills-same}
@@ -46,14 +46,10 @@ module _ (t : List ℕ) (order D n : ℕ) (def : List ℕ) (N : n ≡ states t) 
       sym (endless-agrees falls chosen-range)
       ∙ any-none (states t) (endless v) (λ s h. let (_, e, _) = defaults-chain t order D v (λ x k. refl) s h in ap (λ (o : Option ℕ). not (given o)) e)
 
-  -- Their depth is that of the forest.
-  chosen-depth : (depth : ℕ) → depth ≡ depthOf (defaultsView n def) → depth ≡ depthOf v
-  chosen-depth depth e = e ∙ sym (depth-agrees falls chosen-range)
-
 module _ (t : List ℕ) (order D : ℕ) (room : List ℕ) (number l : ℕ) where
   -- The grounds after the table's.
   abbrev rest : List Ground
-  rest = (17, ltb ((D + 1) / 2) (depthOf (tableView t (defaults t order D)))) ∷ (16, ltb (length room) (length (compacted t order D))) ∷ []
+  rest = (16, ltb (length room) (length (compacted t order D))) ∷ []
 
   -- Ground 18.
   pub compact-unknown : 2 < order → number ≡ 18 → l ≡ 0 → Compacts t order D room number l room
@@ -65,22 +61,15 @@ module _ (t : List ℕ) (order D : ℕ) (room : List ℕ) (number l : ℕ) where
   unfolding compact compactGrounds
   compact-judged h e n q = refuses (compactGrounds t order D (length room)) (compacted t order D) room number l (rw (le-ltb 2 order h) (table-refused t rest number e n)) n q
 
-  module _ (known : order ≤ 2) (e : judgeTable t ≡ 0) (n : ℕ) (def : List ℕ) (N : n ≡ states t) (C : Chosen t n order D def) (depth : ℕ) (deep : depth ≡ depthOf (defaultsView n def)) where
+  module _ (known : order ≤ 2) (e : judgeTable t ≡ 0) (n : ℕ) (def : List ℕ) (N : n ≡ states t) (C : Chosen t n order D def) where
     left : Decided (first (compactGrounds t order D (length room))) rest
     unfolding compactGrounds
     left = record { decided = rw (le-ltb 2 order known) (table-passed t rest e .decided) }
 
-    -- Ground 17.
-    pub compact-deep : D / 2 + D % 2 < depth → number ≡ 17 → l ≡ 0 → Compacts t order D room number l room
-    unfolding compact
-    compact-deep less h q =
-        refuses (compactGrounds t order D (length room)) (compacted t order D) room number l
-        (h ∙ applies left (lt-ltb ((D + 1) / 2) (depthOf (tableView t (defaults t order D))) (omega (arith, chosen-depth t order D n def N C depth deep)))) (λ z. omega arith) q
-
     -- Ground 16, or the image.
-    pub compact-fills : (after : List ℕ) → depth ≤ D / 2 + D % 2 → Fills (listImage t def) room number l after → Compacts t order D room number l after
+    pub compact-fills : (after : List ℕ) → Fills (listImage t def) room number l after → Compacts t order D room number l after
     unfolding compact compacted
-    compact-fills after most F =
+    compact-fills after F =
         fills-same (listImage t def) (compacted t order D) room after number l (first (compactGrounds t order D (length room))) F
         (list-image t (defaults t order D) n def N (chosen-range t order D n def N C) (λ s h. sym (C .defaults-are s h)))
-        (passed left (le-ltb ((D + 1) / 2) (depthOf (tableView t (defaults t order D))) (omega (arith, chosen-depth t order D n def N C depth deep))))
+        left

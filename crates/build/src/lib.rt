@@ -74,10 +74,6 @@ pub fn compact(table: &[u8], order: u32, bound: u16, room: &mut [u8]) -> Built
     let k = words::get16(table, 2) as usize;
     let def = forest::defaults_of(table, n, k, order as u8, bound);
     let o = chains::order_of(&def, n);
-    // 17: the depth built exceeds the bound halved and rounded up.
-    if bound / 2 + bound % 2 < o.depth {
-        return answers::not_built(17);
-    }
     let sorted = o.order;
     image_into(table, n, k, &def, &sorted, o.depth, room)
 }

@@ -1,26 +1,23 @@
 -- What compact leaves: an accepted image whose defaults are the forest's, whose chains are short, and whose entries, defaults and weights make n times k; and what D does at its ends.
-use mathlib.Core.Path.{_≡_, sym, ap, _∙_}
-use mathlib.Core.Bool.{Bool, false}
+use mathlib.Core.Path.{_≡_, refl, sym, ap, _∙_}
 use mathlib.Core.List.{List, [], _∷_, _++_}
 use mathlib.Core.Option.{Option, none}
 use Prim.Native.Nat.{ℕ, _+_, _*_, _/_, _≤_, _<_}
 use lib.Dec.{ltb}
 use lib.ListN.{length}
-use borrow.Author.Tests.{le-ltb}
 use Rattle.paper.specs.Below.{howMany, given}
 use Rattle.paper.specs.Words.{Bytes}
 use Rattle.paper.specs.Refusals.{first}
 use Rattle.paper.specs.Table.{states, classes, tableGrounds}
-use Rattle.paper.specs.View.{depthOf}
 use Rattle.paper.specs.Image as image
 use Rattle.paper.specs.Image.{imageView}
-use Rattle.paper.specs.Results.{tableView, imageOf}
-use Rattle.paper.specs.Forest.{weight, weightsOf, forest, defaults}
+use Rattle.paper.specs.Results.{imageOf}
+use Rattle.paper.specs.Forest.{longest, weight, weightsOf, forest, defaults}
 use Rattle.paper.specs.Sentences.{Ends}
 use Rattle.paper.specs.Operations.{judgeImage, Built, result, building, compacted, compactGrounds, compact}
 use Rattle.paper.proofs.Chain.{chain-ends}
 use Rattle.paper.proofs.Counts.{count-same}
-use Rattle.trees.proofs.Defaults.{defaults-chain, defaults-depth}
+use Rattle.trees.proofs.Defaults.{defaults-chain, defaults-depth, tree-chains, tree-chain-met}
 use Rattle.trees.proofs.EntriesSum.{entries-sum}
 use Rattle.trees.proofs.Bounds.{bound-zero, bound-free}
 use Rattle.trips.proofs.ImageOf.{reads, image-of-accepted, defaults-of-image}
@@ -49,6 +46,16 @@ module _ (t : List ℕ) (order D : ℕ) (room : List ℕ) (B : Bytes t) (e : com
       let (l, q, short) = defaults-chain t order D (imageView left) compacted-defaults s h in
       (l, chain-ends (imageView left) (states t) s l q, short)
 
+  -- In a tree no chain is longer than its longest path halved and rounded up.
+  pub compacted-tree : (x y l : ℕ) → x < states t → y < states t → forest t order D .tree x ≡ forest t order D .tree y → Ends (imageView left) y l
+      → l ≤ (longest (states t) (forest t order D) x + 1) / 2
+  compacted-tree = tree-chains t order D (imageView left) compacted-defaults
+
+  -- One is so long.
+  pub compacted-tree-met : (x : ℕ) → x < states t
+      → (y : ℕ) × (y < states t) × (forest t order D .tree x ≡ forest t order D .tree y) × Ends (imageView left) y ((longest (states t) (forest t order D) x + 1) / 2)
+  compacted-tree-met = tree-chain-met t order D (imageView left) compacted-defaults
+
   -- So is the depth that it states.
   pub compacted-depth : image.depth left ≤ (D + 1) / 2
   compacted-depth =
@@ -75,17 +82,14 @@ pub compacted-zero : (t : List ℕ) (order : ℕ) (room : List ℕ) → Bytes t 
     → (s : ℕ) → s < states t → image.default (result (compact t order 0 room)) s ≡ none
 compacted-zero t order room B e s h = compacted-defaults t order 0 room B e s h ∙ bound-zero t order s
 
--- Compact with the defaults of the forest as one argument: 17 never applies.
 module _ (t : List ℕ) (order : ℕ) (room : List ℕ) where
-  -- What it then answers and leaves.
+  -- What compact answers and leaves, by the defaults that it chose.
   abbrev answers : (ℕ → Option ℕ) → Built
-  answers default = building (first ((18, ltb 2 order) ∷ (tableGrounds t ++ ((17, false) ∷ (16, ltb (length room) (length (imageOf t default))) ∷ [])))) (imageOf t default) room
+  answers default = building (first ((18, ltb 2 order) ∷ (tableGrounds t ++ ((16, ltb (length room) (length (imageOf t default))) ∷ [])))) (imageOf t default) room
 
   compact-by : (D : ℕ) → compact t order D room ≡ answers (defaults t order D)
   unfolding compact compactGrounds compacted
-  compact-by D =
-      ap (λ (deep : Bool). building (first ((18, ltb 2 order) ∷ (tableGrounds t ++ ((17, deep) ∷ (16, ltb (length room) (length (imageOf t (defaults t order D)))) ∷ [])))) (imageOf t (defaults t order D)) room)
-      (le-ltb ((D + 1) / 2) (depthOf (tableView t (defaults t order D))) (defaults-depth t order D))
+  compact-by D = refl
 
   -- D at n - 1 or more binds nothing: with all such bounds compact answers and leaves the same.
   pub compacted-free : (D D′ : ℕ) → states t ≤ D + 1 → states t ≤ D′ + 1 → compact t order D room ≡ compact t order D′ room

@@ -14,7 +14,7 @@ use Rattle.paper.specs.View.{look}
 use Rattle.paper.specs.Image as image
 use Rattle.paper.specs.Image.{imageView}
 use Rattle.paper.specs.Results.{defaultsOf, tableOf}
-use Rattle.paper.specs.Forest.{Trees, weight, singles, weightsOf, rest, forest, defaults}
+use Rattle.paper.specs.Forest.{Trees, longest, weight, singles, weightsOf, rest, forest, defaults}
 use Rattle.paper.specs.Levels.{levels}
 use Rattle.paper.specs.BestPair.{JoinsAll}
 use Rattle.paper.specs.Paths.{TrueDistances}
@@ -130,6 +130,14 @@ pub half-of-bound : (t : List ℕ) (order D : ℕ) (room : List ℕ) → Bytes t
     → ((s : ℕ) → s < states t → (l : ℕ) × Ends (imageView (result (compact t order D room))) s l × (l ≤ (D + 1) / 2))
     × (image.depth (result (compact t order D room)) ≤ (D + 1) / 2)
 half-of-bound t order D room B e = (compacted.compacted-chains t order D room B e, compacted.compacted-depth t order D room B e)
+
+-- In each tree of the forest the longest chain that compact leaves is the tree's longest path halved and rounded up: its root is a centre, and no state lies farther from a centre than that.
+pub tree-depth : (t : List ℕ) (order D : ℕ) (room : List ℕ) → Bytes t → compact t order D room .number ≡ 0 → (x : ℕ) → x < states t
+    → let F = forest t order D in
+    let v = imageView (result (compact t order D room)) in
+    ((y l : ℕ) → y < states t → F .tree x ≡ F .tree y → Ends v y l → l ≤ (longest (states t) F x + 1) / 2)
+    × ((y : ℕ) × (y < states t) × (F .tree x ≡ F .tree y) × Ends v y ((longest (states t) F x + 1) / 2))
+tree-depth t order D room B e x h = (λ y l. compacted.compacted-tree t order D room B e x y l h, compacted.compacted-tree-met t order D room B e x h)
 
 -- Of what compact leaves the entries stored, plus the defaults in the records, plus the weights of the pairs added, equal n times k.
 pub entries-sum : (t : List ℕ) (order D : ℕ) (room : List ℕ) → Bytes t → compact t order D room .number ≡ 0

@@ -2,16 +2,15 @@
 use mathlib.Core.Path.{_≡_, refl, sym, _∙_}
 use mathlib.Core.Logic.{_↔_, inr}
 use mathlib.Core.List.{List}
-use Prim.Native.Nat.{ℕ, zero, suc, _+_, _*_, _/_}
+use Prim.Native.Nat.{ℕ, zero, suc, _*_}
 use lib.ListN.{length}
 use Rattle.paper.specs.Below.{any, differ}
 use Rattle.paper.specs.Refusals.{Ground, first}
 use Rattle.paper.specs.Table.{states, tableGrounds}
-use Rattle.paper.specs.View.{defaultBad, endless, depthOf}
+use Rattle.paper.specs.View.{defaultBad, endless}
 use Rattle.paper.specs.Image as image
 use Rattle.paper.specs.Image.{imageGrounds}
 use Rattle.paper.specs.Results.{tableView, imageOf, tableOf}
-use Rattle.paper.specs.Forest.{defaults}
 use Rattle.paper.specs.Scan.{Run, scanOf}
 use Rattle.paper.specs.Operations.{judgeTable, judgeImage, building, scanning, listed, compacted, compactGrounds, compact, writeGrounds, write, expandGrounds, expand, scanGrounds, scan}
 use Rattle.paper.specs.Sentences.{Sentence, FirstOf, DefaultWrong, Returns, tableSentences, imageSentences, compactSentences, writeSentences, expandSentences, scanSentences}
@@ -52,7 +51,7 @@ compact-says t order D room = (
   refl,
   holds-less 2 order,
   λ _. says-append (tableGrounds t) _ (tableSentences t) _ (table-says t)
-      (refl, holds-less ((D + 1) / 2) (depthOf (tableView t (defaults t order D))), λ _. (refl, holds-less room (length (compacted t order D)), λ _. tt)),
+      (refl, holds-less room (length (compacted t order D)), λ _. tt),
 )
 
 -- Compact.

@@ -3,17 +3,16 @@ use mathlib.Core.Path.{_≡_}
 use mathlib.Core.Logic.{_⊎_}
 use mathlib.Core.List.{List, [], _∷_, _++_}
 use mathlib.Core.Option.{Option, none, some}
-use Prim.Native.Nat.{ℕ, suc, _+_, _-_, _*_, _/_, _≤_, _<_}
+use Prim.Native.Nat.{ℕ, suc, _+_, _-_, _*_, _≤_, _<_}
 use lib.ListN.{length, take}
 use Rattle.paper.specs.Below.{sum}
 use Rattle.paper.specs.Words.{words, checkWord}
 use Rattle.paper.specs.Table as table
 use Rattle.paper.specs.Table.{tableLength}
-use Rattle.paper.specs.View.{View, stored, steps, depthOf}
+use Rattle.paper.specs.View.{View, stored, steps}
 use Rattle.paper.specs.Image as image
 use Rattle.paper.specs.Image.{imageLength, imageView}
 use Rattle.paper.specs.Results.{tableView, imageOf, tableOf}
-use Rattle.paper.specs.Forest.{defaults}
 use Rattle.paper.specs.Operations.{listed, compacted}
 
 -- A sentence: the refusal's number, and when it is given.
@@ -124,14 +123,9 @@ imageSentences b =
     ∷ (7, ClassesWrong k (image.classOf b))
     ∷ viewSentences (imageView b) (image.classOf b) m (image.depth b) (image.worst b)
 
--- Compact: 18 (an order above 2), the table's, 17, 16.
+-- Compact: 18 (an order above 2), the table's, 16.
 unfoldable pub compactSentences : List ℕ → ℕ → ℕ → ℕ → List Sentence
-compactSentences t order D room =
-    (18, 2 < order)
-    ∷ (tableSentences t
-    ++ ((17, (D + 1) / 2 < depthOf (tableView t (defaults t order D)))
-    ∷ (16, room < length (compacted t order D))
-    ∷ []))
+compactSentences t order D room = (18, 2 < order) ∷ (tableSentences t ++ ((16, room < length (compacted t order D)) ∷ []))
 
 -- Write: the table's, 8 (list length and values only), 11, 16.
 unfoldable pub writeSentences : List ℕ → List ℕ → ℕ → List Sentence

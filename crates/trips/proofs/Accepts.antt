@@ -3,7 +3,7 @@ use mathlib.Core.Path.{_≡_, refl, ap}
 use mathlib.Core.Bool.{false, not, _||_}
 use mathlib.Core.Option.{Option, none, some}
 use mathlib.Core.List.{List, [], _∷_, _++_}
-use Prim.Native.Nat.{ℕ, _+_, _*_, _/_, _≤_, _<_}
+use Prim.Native.Nat.{ℕ, _+_, _*_, _≤_, _<_}
 use lib.Dec.{ltb}
 use lib.ListN.{length}
 use borrow.Author.Tests.{le-ltb, lt-leb}
@@ -11,7 +11,7 @@ use Rattle.paper.specs.Below.{any, differ, given}
 use Rattle.paper.specs.Refusals.{Ground, first}
 use Rattle.paper.specs.Table as table
 use Rattle.paper.specs.Table.{tableGrounds}
-use Rattle.paper.specs.View.{endless, defaultBad, depthOf, viewGrounds}
+use Rattle.paper.specs.View.{endless, defaultBad, viewGrounds}
 use Rattle.paper.specs.Image.{imageGrounds}
 use Rattle.paper.specs.Results.{tableView, imageOf, tableOf}
 use Rattle.paper.specs.Forest.{defaults}
@@ -78,5 +78,5 @@ pub compact-writable : (t : List ℕ) (order D room : ℕ) → first (compactGro
 unfolding compactGrounds tableGrounds judgeTable
 compact-writable t order D room e =
     let known : List Ground = (18, ltb 2 order) ∷ [] in
-    let own : List Ground = (17, ltb ((D + 1) / 2) (depthOf (tableView t (defaults t order D)))) ∷ (16, ltb room (length (compacted t order D))) ∷ [] in
+    let own : List Ground = (16, ltb room (length (compacted t order D))) ∷ [] in
     forest-writable t order D (first-both (tableGrounds t) own refl (first-both known (tableGrounds t ++ own) refl e .1) .0)

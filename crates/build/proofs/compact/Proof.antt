@@ -1,4 +1,4 @@
--- Each ground in its order: 18, the table's, 17, 16; past them the image of the forest's defaults.
+-- Each ground in its order: 18, the table's, 16; past them the image of the forest's defaults.
 use mathlib.Core.Path.{_≡_, sym, _∙_}
 use Prim.Native.Nat.{_≤_}
 use mathlib.Core.Bool.{false}
@@ -8,7 +8,7 @@ use Rattle.paper.specs.Operations.{judgeTable}
 use Rattle.facts.proofs.TableFacts.{accepted-table}
 use Rattle.chains.specs.Orders.{InRange}
 use Rattle.build.proofs.Lists.{list-ordered}
-use Rattle.build.proofs.Chosen.{chosen-range, chosen-ends, compact-unknown, compact-judged, compact-deep, compact-fills}
+use Rattle.build.proofs.Chosen.{chosen-range, chosen-ends, compact-unknown, compact-judged, compact-fills}
 use Rattle.build.proofs.compact.Statement.{statement}
 use Rattle.build.proofs.compact.Tie as tie
 
@@ -85,24 +85,9 @@ order-of-requires c κs =
     let d = read .before in
     (omega (arith, read .get16 .ensures, accepted-table (now (begun (d .before) .args .table)) (accepted d) .few-states), range (c .before))
 
-add-if3 : tie.Need-add-if3
-add-if3 c = omega arith
-
-not-built-requires-3 : tie.Need-not-built-requires-3
-not-built-requires-3 c κs = tt
-
-returns-3 : tie.Need-returns-3
-returns-3 c =
-    let order = c .before .before .before in
-    let chosen = order .before .before in
-    let read = chosen .before .before in
-    let a = begun (read .before .before) .args in
-    compact-deep (now (a .table)) (a .order) (a .bound) (now (a .room)) _ _ (known (read .before .before)) (accepted (read .before)) (read .get16 .result) (chosen .defaults-of .result) (read .get16 .ensures) (chosen .defaults-of .ensures)
-    (order .order-of .result .depth) (order .order-of .ensures .1 (ends order) .0) (c .before .if3 .taken) (c .not-built3 .ensures .0) (c .not-built3 .ensures .1)
-
 image-into-requires : tie.Need-image-into-requires
 image-into-requires c κs =
-    let order = c .before .before .before .before .before .before in
+    let order = c .before .before .before .before in
     let chosen = order .before .before in
     let read = chosen .before .before in
     let a = begun (read .before .before) .args in
@@ -111,16 +96,15 @@ image-into-requires c κs =
 same-length : tie.Need-same-length
 same-length c = c .before .room .given
 
-returns-4 : tie.Need-returns-4
-returns-4 c =
+returns-3 : tie.Need-returns-3
+returns-3 c =
     let image = c .before .before in
-    let tested = image .before .before .before .before .before in
-    let order = tested .before .before in
+    let order = image .before .before .before .before .before in
     let chosen = order .before .before in
     let read = chosen .before .before in
     let a = begun (read .before .before) .args in
     compact-fills (now (a .table)) (a .order) (a .bound) (now (a .room)) _ _ (known (read .before .before)) (accepted (read .before)) (read .get16 .result) (chosen .defaults-of .result) (read .get16 .ensures) (chosen .defaults-of .ensures)
-    (order .order-of .result .depth) (order .order-of .ensures .1 (ends order) .0) _ (tested .if3 .left) (image .image-into .ensures)
+    _ (image .image-into .ensures)
 
 pub compact-spec : {M : Type 1} → statement M
 compact-spec =
@@ -138,9 +122,6 @@ compact-spec =
     cast-defaults-of
     defaults-of-requires
     order-of-requires
-    add-if3
-    not-built-requires-3
-    returns-3
     image-into-requires
     same-length
-    returns-4)
+    returns-3)
