@@ -122,6 +122,13 @@ static void join_all_best(joined_trees *f, size_t n, uint32_t order, uint32_t bo
         if (seen[w]) join_best(f, n, order, bound, w);
 }
 
+/* As a root x goes before y: smaller d, of two more neighbours, of two the smaller number. */
+static inline int before(const joined_trees *f, const uint16_t *near, size_t x, size_t y) {
+    if (f->d[x] != f->d[y]) return f->d[x] < f->d[y];
+    if (near[x] != near[y]) return near[x] > near[y];
+    return x < y;
+}
+
 void plain_defaults(const uint8_t *table, size_t length, uint32_t order, uint32_t bound, int seeking, uint16_t *defaults) {
     size_t n = plain_number16(table), k = plain_number16(table + 2);
     const uint8_t *rows = table + length - 2 * n * k;
@@ -139,10 +146,16 @@ void plain_defaults(const uint8_t *table, size_t length, uint32_t order, uint32_
     if (order) join_all_best(&f, n, order, bound, k - 1);
     else
         for (size_t w = k - 1; w > 0; w--) (seeking ? seek : test_each)(&f, n, bound, w);
+    uint16_t near[512] = {0};
+    for (size_t s = 0; s < n; s++)
+        if (f.parent[s] != s) {
+            near[s]++;
+            near[f.parent[s]]++;
+        }
     for (size_t s = 0; s < n; s++) {
         size_t first = s;
         for (size_t x = 0; x < n; x++)
-            if (f.tree[x] == f.tree[s] && (f.d[x] < f.d[first] || (f.d[x] == f.d[first] && x < first))) first = x;
+            if (f.tree[x] == f.tree[s] && before(&f, near, x, first)) first = x;
         if (first == s) turn(f.parent, s);
     }
     for (size_t s = 0; s < n; s++) defaults[s] = f.parent[s] == s ? 65535 : f.parent[s];

@@ -173,6 +173,22 @@ static void papers_cases(void) {
     }
 }
 
+/* The tree (0,1), (1,2), (2,3), (2,4), from a table in which all pairs agree on two classes and those four on one more. Its centres are 1 and 2. In the tree 2 has more
+ * neighbours, though over all pairs of weight 1 or more both have four; so every chain ends at 2. */
+static void wrong_centre(void) {
+    static const uint16_t five[] = {0, 0, 0, 0, 0, 0, 0, 0, 0, 1, 1, 1, 0, 0, 2, 1, 2, 2, 0, 0, 3, 3, 2, 3, 0, 0, 4, 4, 4, 2};
+    static const uint32_t falls[] = {1, 2, 65535, 2, 2}, bounds[] = {3, 4, 5, 65535};
+    rows_of(5, 6, five);
+    for (order = 0; order <= 2; order++)
+        for (size_t i = 0; i < 4; i++) {
+            if (compared(COMPACT, table, 262 + 10 + 60, 0, bounds[i], 382) != 382) fail("the tree of five", bounds[i]);
+            expect_image(382, 18, 2, 2, "the tree of five");
+            for (uint32_t s = 0; s < 5; s++)
+                if (number16(wanted, 382 - 12 - 72 - 20 + 4 * s) != falls[s]) fail("the tree of five falls to 2", s);
+        }
+    order = 0;
+}
+
 /* Tables with many equal rows, at the bounds where the forest changes. */
 static void forests(int rounds) {
     while (rounds--) {
@@ -228,6 +244,7 @@ int main(void) {
     lent_room = guard(LONGEST_IMAGE + 64);
     seed(4);
     papers_cases();
+    wrong_centre();
     round_trips(2200);
     forests(1000);
     no_such_order();

@@ -348,7 +348,7 @@ static void take_pairs(forest *f, uint32_t order, uint32_t bound, pairs *p, uint
     }
 }
 
-/* The root of the tree of x: of the states with the smallest d the one with the smallest number. */
+/* The root of the tree of x: of the states with the smallest d those that the most added pairs end at, and of these the one with the smallest number. */
 static uint32_t root_of(const forest *f, uint32_t x) {
     int distance[MOST_STATES], least = -1;
     uint32_t root = x;
@@ -356,7 +356,7 @@ static uint32_t root_of(const forest *f, uint32_t x) {
     for (uint32_t y = 0; y < f->n; y++)
         if (distance[y] >= 0) {
             int far = farthest(f, y);
-            if (least < 0 || far < least) {
+            if (least < 0 || far < least || (far == least && f->degree[y] > f->degree[root])) {
                 least = far;
                 root = y;
             }

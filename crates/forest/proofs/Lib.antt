@@ -3,5 +3,6 @@ pub mod Counting
 pub mod Weighed
 pub mod Falling
 pub mod Single
+pub mod Beside
 pub mod Settled
 pub mod Chosen

@@ -1,3 +1,4 @@
 pub mod Weighed
+pub mod Beside
 pub mod Settled
 pub mod Chosen

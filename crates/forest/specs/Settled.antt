@@ -12,17 +12,17 @@ use Rattle.trees.proofs.Inside.{Inside}
 use Rattle.joining.specs.Rooted.{Low, Rooted}
 use Rattle.joining.specs.Held.{Held}
 
--- Of two states the one, if both are of one tree, goes before the other as a root: by smaller d, of two the smaller number.
-abbrev pub staysRoot : ℕ → ℕ → ℕ → ℕ → ℕ → ℕ → Bool
-staysRoot ty tz dy dz y z = cond (eqb ty tz) (ltb dy dz || (eqb dy dz && leb y z)) true
+-- Of two states the one, if both are of one tree, goes before the other as a root: by smaller d, with equal d by more neighbours, with equally many by the smaller number.
+abbrev pub staysRoot : ℕ → ℕ → ℕ → ℕ → ℕ → ℕ → ℕ → ℕ → Bool
+staysRoot ty tz dy dz ny nz y z = cond (eqb ty tz) (ltb dy dz || (eqb dy dz && (ltb nz ny || (eqb nz ny && leb y z)))) true
 
 -- The same by the arrays.
-abbrev pub besideRoot : List ℕ → List ℕ → ℕ → ℕ → Bool
-besideRoot far tree y z = staysRoot (getD tree y 0) (getD tree z 0) (getD far y 0) (getD far z 0) y z
+abbrev pub besideRoot : List ℕ → List ℕ → List ℕ → ℕ → ℕ → Bool
+besideRoot far tree near y z = staysRoot (getD tree y 0) (getD tree z 0) (getD far y 0) (getD far z 0) (getD near y 0) (getD near z 0) y z
 
 -- By the arrays the state y is its tree's root.
-abbrev pub rootIn : List ℕ → List ℕ → ℕ → ℕ → Bool
-rootIn far tree n y = every n (besideRoot far tree y)
+abbrev pub rootIn : List ℕ → List ℕ → List ℕ → ℕ → ℕ → Bool
+rootIn far tree near n y = every n (besideRoot far tree near y)
 
 -- The trees are held, and the parents lead to each root below i.
 pub record Settled (n : ℕ) (F : Trees) (far parent tree : List ℕ) (i : ℕ) : Type 0 where

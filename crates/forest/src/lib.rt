@@ -9,6 +9,7 @@ ghost use Rattle.table.specs.Counted.{Counted};
 ghost use Rattle.joining.specs.Filled.{Replaced};
 ghost use Rattle.joining.specs.Rooted.{Low};
 ghost use Rattle.forest.specs.Weighed.{Weighed, Own, Single};
+ghost use Rattle.forest.specs.Beside.{NeighboursIn};
 ghost use Rattle.forest.specs.Settled.{staysRoot, rootIn, Settles};
 ghost use Rattle.forest.specs.Chosen.{Chosen};
 use joining::Forest;
@@ -65,9 +66,25 @@ fn single_states() -> Forest
     }
 }
 
-// Whether y, if it is of z's tree, goes before z as a root: by smaller d, of two the smaller number.
-fn stays_root(ty: u16, tz: u16, dy: u16, dz: u16, y: usize, z: usize) -> bool
-    ensures { λ r. ⌜ r ≡ staysRoot ty tz dy dz y z ⌝ }
+// The number of neighbours of each state: one at each state that is not its own parent, and one at its parent.
+fn neighbours_of(parent: &[u16; 512], n: usize) -> [u16; 512]
+    requires { ⌜ (n ≤ 512) × Low (now parent) ⌝ }
+    ensures { λ r. ⌜ NeighboursIn (now (parent .entry)) r n ⌝ }
+{
+    let mut near = [0u16; 512];
+    for x in 0..n {
+        let p = parent[x] as usize;
+        if p != x {
+            near[x] += 1;
+            near[p] += 1;
+        }
+    }
+    near
+}
+
+// Whether y, if it is of z's tree, goes before z as a root: by smaller d, with equal d by more neighbours, with equally many by the smaller number.
+fn stays_root(ty: u16, tz: u16, dy: u16, dz: u16, ny: u16, nz: u16, y: usize, z: usize) -> bool
+    ensures { λ r. ⌜ r ≡ staysRoot ty tz dy dz ny nz y z ⌝ }
 {
     if ty != tz {
         return true;
@@ -78,23 +95,29 @@ fn stays_root(ty: u16, tz: u16, dy: u16, dz: u16, y: usize, z: usize) -> bool
     if dz < dy {
         return false;
     }
+    if nz < ny {
+        return true;
+    }
+    if ny < nz {
+        return false;
+    }
     y <= z
 }
 
-// Whether y is its tree's root: the state with the smallest d, of two the smaller number.
-fn is_root(d: &[u16; 512], tree: &[u16; 512], n: usize, y: usize) -> bool
+// Whether y is its tree's root: the state with the smallest d, with equal d the most neighbours, with equally many the smallest number.
+fn is_root(d: &[u16; 512], tree: &[u16; 512], near: &[u16; 512], n: usize, y: usize) -> bool
     requires { ⌜ (n ≤ 512) × (y < n) ⌝ }
-    ensures { λ r. ⌜ r ≡ rootIn (now (d .entry)) (now (tree .entry)) n y ⌝ }
+    ensures { λ r. ⌜ r ≡ rootIn (now (d .entry)) (now (tree .entry)) (now (near .entry)) n y ⌝ }
 {
     for z in 0..n {
-        if !stays_root(tree[y], tree[z], d[y], d[z], y, z) {
+        if !stays_root(tree[y], tree[z], d[y], d[z], near[y], near[z], y, z) {
             return false;
         }
     }
     true
 }
 
-// The parents with each tree turned to its root.
+// The parents with each tree turned to its root; the neighbours are counted once, before.
 fn settle(f: Forest, n: usize) -> [u16; 512]
     requires { ⌜ (n ≤ 512) × Low (f .parent) ⌝ }
     ensures { λ r. ⌜ Settles n (f .d) (f .parent) (f .tree) r n ⌝ }
@@ -102,8 +125,9 @@ fn settle(f: Forest, n: usize) -> [u16; 512]
     let d = f.d;
     let tree = f.tree;
     let mut parent = f.parent;
+    let near = neighbours_of(&parent, n);
     for x in 0..n {
-        if is_root(&d, &tree, n, x) {
+        if is_root(&d, &tree, &near, n, x) {
             let turned = joining::turned_to(parent, x, d[x]);
             parent = turned;
         }

@@ -13,11 +13,13 @@ use Rattle.paper.specs.Image as image
 use Rattle.paper.specs.Image.{imageView}
 use Rattle.paper.specs.Results.{imageOf}
 use Rattle.paper.specs.Forest.{longest, weight, weightsOf, forest, defaults}
+use Rattle.paper.specs.Roots.{GoesBefore}
 use Rattle.paper.specs.Sentences.{Ends}
 use Rattle.paper.specs.Operations.{judgeImage, Built, result, building, compacted, compactGrounds, compact}
 use Rattle.paper.proofs.Chain.{chain-ends}
 use Rattle.paper.proofs.Counts.{count-same}
 use Rattle.trees.proofs.Defaults.{defaults-chain, defaults-depth, tree-chains, tree-chain-met}
+use Rattle.trees.proofs.RootChosen.{no-default-chosen}
 use Rattle.trees.proofs.EntriesSum.{entries-sum}
 use Rattle.trees.proofs.Bounds.{bound-zero, bound-free}
 use Rattle.trips.proofs.ImageOf.{reads, image-of-accepted, defaults-of-image}
@@ -39,6 +41,11 @@ module _ (t : List ℕ) (order D : ℕ) (room : List ℕ) (B : Bytes t) (e : com
   compacted-defaults s h =
       let (w, W) = compact-leaves t order D room e in
       ap (λ (b : List ℕ). image.default b s) w ∙ defaults-of-image t (defaults t order D) B W s h
+
+  -- Of each tree the state without a default is the one that goes before all others as a root.
+  pub compacted-root : (r y : ℕ) → r < states t → y < states t → image.default left r ≡ none → forest t order D .tree r ≡ forest t order D .tree y
+      → GoesBefore (states t) (forest t order D) r y
+  compacted-root r y rb yb q m = no-default-chosen t order D r y rb yb (sym (compacted-defaults r rb) ∙ q) m
 
   -- Every chain of it ends after at most D halved and rounded up.
   pub compacted-chains : (s : ℕ) → s < states t → (l : ℕ) × Ends (imageView left) s l × (l ≤ (D + 1) / 2)

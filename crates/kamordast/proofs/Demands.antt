@@ -14,10 +14,11 @@ use Rattle.paper.specs.View.{look}
 use Rattle.paper.specs.Image as image
 use Rattle.paper.specs.Image.{imageView}
 use Rattle.paper.specs.Results.{defaultsOf, tableOf}
-use Rattle.paper.specs.Forest.{Trees, longest, weight, singles, weightsOf, rest, forest, defaults}
+use Rattle.paper.specs.Forest.{Trees, longest, weight, singles, neighbours, weightsOf, rest, forest, defaults}
 use Rattle.paper.specs.Levels.{levels}
 use Rattle.paper.specs.BestPair.{JoinsAll}
 use Rattle.paper.specs.Paths.{TrueDistances}
+use Rattle.paper.specs.Roots.{pairsAt, GoesBefore}
 use Rattle.paper.specs.Operations.{judgeTable, judgeImage, result, Unchanged, building, compact, write, expand, scan}
 use Rattle.paper.specs.Promises.{SameBuilt, JudgesTable, JudgesImage, Compacts, Writes, Expands, Scans}
 use Rattle.paper.specs.Sentences.{FirstOf, Ends, LongestChain, Serves, LargestHops, tableSentences, imageSentences, compactSentences, writeSentences, expandSentences, scanSentences}
@@ -33,6 +34,7 @@ use Rattle.facts.proofs.ImageFacts.{accepted-image}
 use Rattle.facts.proofs.Finds as finds
 use Rattle.damage.proofs.Damage as damage
 use Rattle.trees.proofs.TrueDistances as trees
+use Rattle.trees.proofs.Neighbours as around
 use Rattle.trees.proofs.Best.{falling-joins, joins-falling}
 use Rattle.trips.proofs.ExpandsBack as expands
 use Rattle.trips.proofs.WritesBack as writes
@@ -82,6 +84,13 @@ best-pair t order D =
 -- The distances of the forest are the lengths of the paths over the pairs added.
 pub distances-true : (t : List ℕ) (order D : ℕ) → TrueDistances (forest t order D)
 distances-true = trees.distances-true
+
+-- Of what compact leaves the root of each tree, its state without a default, has the smallest d in the tree, of those the most neighbours, and of those the smallest number.
+-- A state's neighbours are the pairs added of which it is an end.
+pub root-chosen : ((t : List ℕ) (order D : ℕ) (room : List ℕ) → Bytes t → compact t order D room .number ≡ 0 → (r y : ℕ) → r < states t → y < states t
+    → image.default (result (compact t order D room)) r ≡ none → forest t order D .tree r ≡ forest t order D .tree y → GoesBefore (states t) (forest t order D) r y)
+    × ((t : List ℕ) (order D x : ℕ) → neighbours (states t) (forest t order D) x ≡ pairsAt x (forest t order D .added))
+root-chosen = (compacted.compacted-root, around.neighbours-added)
 
 -- Expanding what write or compact built gives back the table, byte for byte.
 pub expands-back : ((t ds room room′ : List ℕ) → Bytes t → write t ds room .number ≡ 0 → length t ≤ length room′ → expand (result (write t ds room)) room′ ≡ building 0 t room′)

@@ -4,12 +4,12 @@ use mathlib.Core.List.{List, [], _∷_, _++_, map}
 use Prim.Native.Nat.{ℕ}
 use lib.Dec.{eqb}
 use lib.ListN.{length, replicate, take}
-use Rattle.paper.specs.Below.{list}
+use Rattle.paper.specs.Below.{sum, list}
 use Rattle.paper.specs.Words.{bytes16, bytes32, checkWord}
 use Rattle.paper.specs.Image as image
 use Rattle.paper.specs.Image.{entries, depth, worst}
 use Rattle.paper.specs.Results.{defaultNumber, imageOf}
-use Rattle.paper.specs.Forest.{weight, forest}
+use Rattle.paper.specs.Forest.{Trees, weight, singles, joined, root, lean, forest}
 use Rattle.paper.specs.Operations.{judgeTable, Built, compacted, compact, listed, write, Scanned, scan}
 
 -- Numbers of 16 bits, one after the other.
@@ -90,6 +90,17 @@ abbrev pub shown : List (ℕ × ℕ) → List ℕ
 shown [] = []
 shown (p ∷ ps) = shown ps ++ (p .0 ∷ p .1 ∷ [])
 
+-- The tree (0,1), (1,2), (2,3), (2,4).
+abbrev pub tree5 : Trees
+tree5 = joined (joined (joined (joined singles 0 1) 1 2) 2 3) 2 4
+
+-- A table of five states whose forest is this tree, though every pair has weight 1 or more.
+abbrev pub five : List ℕ
+five =
+    all16 (5 ∷ 6 ∷ 0 ∷ []) ++ (replicate 97 0 ++ (1 ∷ 2 ∷ 3 ∷ 4 ∷ 5 ∷ []) ++ replicate 154 0) ++ replicate 10 0
+    ++ all16 (0 ∷ 0 ∷ 0 ∷ 0 ∷ 0 ∷ 0 ∷ []) ++ all16 (0 ∷ 0 ∷ 0 ∷ 1 ∷ 1 ∷ 1 ∷ []) ++ all16 (0 ∷ 0 ∷ 2 ∷ 1 ∷ 2 ∷ 2 ∷ [])
+    ++ all16 (0 ∷ 0 ∷ 3 ∷ 3 ∷ 2 ∷ 3 ∷ []) ++ all16 (0 ∷ 0 ∷ 4 ∷ 4 ∷ 4 ∷ 2 ∷ [])
+
 -- The starred cases in the paper's order; 65535 is no default, and a room is 255 where it is not written.
 abbrev pub starred : List Case
 starred =
@@ -117,4 +128,8 @@ requested =
     ∷ (built (compact eight 2 2 (room 340)), 0 ∷ 340 ∷ 3 ∷ 1 ∷ 1 ∷ 65535 ∷ 0 ∷ 0 ∷ 0 ∷ 0 ∷ 0 ∷ 0 ∷ 0 ∷ [])
     ∷ (compact [] 3 2 [] .number ∷ [], 18 ∷ [])
     ∷ (map checkWord ((32768 ∷ 32768 ∷ []) ∷ (1 ∷ 65534 ∷ []) ∷ (65535 ∷ 65535 ∷ 65535 ∷ []) ∷ (65535 ∷ 2 ∷ 65535 ∷ []) ∷ []), 65534 ∷ 0 ∷ 0 ∷ 65533 ∷ [])
+    ∷ (map (root 5 (lean 5) tree5) (0 ∷ 1 ∷ 2 ∷ 3 ∷ 4 ∷ []), 2 ∷ 2 ∷ 2 ∷ 2 ∷ 2 ∷ [])
+    ∷ (map (λ r. sum 5 (λ x. tree5 .distance x r)) (1 ∷ 2 ∷ []), 6 ∷ 5 ∷ [])
+    ∷ (shown (forest five 0 3 .added), 0 ∷ 1 ∷ 1 ∷ 2 ∷ 2 ∷ 3 ∷ 2 ∷ 4 ∷ [])
+    ∷ (built (compact five 0 3 (room 382)), 0 ∷ 382 ∷ 18 ∷ 2 ∷ 2 ∷ 1 ∷ 2 ∷ 65535 ∷ 2 ∷ 2 ∷ [])
     ∷ []

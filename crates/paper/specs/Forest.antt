@@ -102,7 +102,7 @@ module _ (n : ℕ) (lean : Trees → ℕ → ℕ) (F : Trees) where
       ltb (d n F y) (d n F z)
       || (eqb (d n F y) (d n F z) && (ltb (lean F y) (lean F z) || (eqb (lean F y) (lean F z) && leb y z)))
 
-  -- The state y is its tree's root: the centre, the state with the smallest d, of two centres the smaller number.
+  -- The state y is its tree's root: the centre, the state with the smallest d, of two centres the one with more neighbours, and of two with equally many the smaller number.
   unfoldable pub isRoot : ℕ → Bool
   isRoot y = every n (λ z. cond (eqb (F .tree y) (F .tree z)) (before y z) true)
 
@@ -129,9 +129,13 @@ rest zero n F p = 0
 rest (suc zero) n F p = across n F (p .0) (p .1)
 rest (suc (suc order)) n F p = growth n F (p .0) (p .1)
 
--- The number that orders states of equal d before their own numbers when a root is chosen; this paper has none, so 0.
+-- The number of neighbours of x in its tree.
+unfoldable pub neighbours : ℕ → Trees → ℕ → ℕ
+neighbours n F x = howMany n (λ y. eqb (F .tree x) (F .tree y) && eqb (F .distance x y) 1)
+
+-- The number that orders states of equal d before their own numbers when a root is chosen: it is smaller the more neighbours a state has.
 abbrev pub lean : ℕ → Trees → ℕ → ℕ
-lean n F x = 0
+lean n F x = n - neighbours n F x
 
 -- The forest of a table in an order with path bound D; no weight is above k - 1.
 unfoldable pub forest : List ℕ → ℕ → ℕ → Trees

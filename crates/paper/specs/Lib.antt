@@ -9,6 +9,7 @@ pub mod Forest
 pub mod Levels
 pub mod BestPair
 pub mod Paths
+pub mod Roots
 pub mod Scan
 pub mod Walk
 pub mod Operations

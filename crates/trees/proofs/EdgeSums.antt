@@ -45,24 +45,23 @@ pub around-singles : (n : ℕ) (w : ℕ → ℕ → ℕ) → aroundSum n w singl
 unfolding singles
 around-singles n w = sum-zero n _ (λ x hx. sum-zero n _ (λ y hy. ap (λ (b : Bool). valueIf b (w x y)) (neighbours-false singles x y (λ N. absurd (omega (arith, N .1))))))
 
--- One place of two coordinates.
-pick-two : (n a b m : ℕ) → a < n → b < n → sum n (λ x. sum n (λ y. valueIf (eqb a x) (valueIf (eqb b y) m))) ≡ m
-pick-two n a b m ha hb =
-    sum-same n (λ x. sum n (λ y. valueIf (eqb a x) (valueIf (eqb b y) m))) (λ x. valueIf (eqb a x) m) (λ x hx. go (eqb a x))
-    ∙ pick-value n a m ha
-  where
-    go : (t : Bool) → sum n (λ y. valueIf t (valueIf (eqb b y) m)) ≡ valueIf t m
-    go true = pick-value n b m hb
-    go false = sum-zero n (λ y. 0) (λ y l. refl)
+-- A value at one place of a row, where the row is the one.
+pick-row : (n b m : ℕ) (row : Bool) → b < n → sum n (λ y. valueIf row (valueIf (eqb b y) m)) ≡ valueIf row m
+pick-row n b m true hb = pick-value n b m hb
+pick-row n b m false hb = sum-zero n (λ y. 0) (λ y l. refl)
 
 module _ (n : ℕ) (w : ℕ → ℕ → ℕ) (symmetric : (x y : ℕ) → w x y ≡ w y x) where
-  -- A join makes the pair neighbours, and no others.
-  pub around-joined : (F : Trees) (u v : ℕ) → ¬ Mates F u v → Metric F → u < n → v < n → aroundSum n w (joined F u v) ≡ aroundSum n w F + 2 * w u v
-  around-joined F u v apart M ub vb =
-      sum-same n _ _ (λ x hx. sum-same n _ _ (λ y hy. cell x y) ∙ sum-add n (old x) (λ y. there x y + back x y) ∙ ap (λ (r : ℕ). sum n (old x) + r) (sum-add n (there x) (back x)))
-      ∙ sum-add n (λ x. sum n (old x)) (λ x. sum n (there x) + sum n (back x))
-      ∙ ap (λ (r : ℕ). aroundSum n w F + r) (sum-add n (λ x. sum n (there x)) (λ x. sum n (back x)) ∙ ap₂ _+_ (pick-two n u v (w u v) ub vb) (pick-two n v u (w u v) vb ub))
-      ∙ omega arith
+  -- The weights of the neighbours of one state.
+  abbrev aroundOne : Trees → ℕ → ℕ
+  aroundOne F x = sum n (λ y. valueIf (neighbours F x y) (w x y))
+
+  -- A join makes the pair neighbours, and no others: each end of the pair gets its weight.
+  pub around-one : (F : Trees) (u v : ℕ) → ¬ Mates F u v → Metric F → u < n → v < n → (x : ℕ)
+      → aroundOne (joined F u v) x ≡ aroundOne F x + (valueIf (eqb u x) (w u v) + valueIf (eqb v x) (w u v))
+  around-one F u v apart M ub vb x =
+      sum-same n _ _ (λ y hy. cell x y)
+      ∙ sum-add n (old x) (λ y. there x y + back x y)
+      ∙ ap (λ (r : ℕ). sum n (old x) + r) (sum-add n (there x) (back x) ∙ ap₂ _+_ (pick-row n v (w u v) (eqb u x) vb) (pick-row n u (w u v) (eqb v x) ub))
     where
       old : ℕ → ℕ → ℕ
       old x y = valueIf (neighbours F x y) (w x y)
@@ -143,3 +142,11 @@ module _ (n : ℕ) (w : ℕ → ℕ → ℕ) (symmetric : (x y : ℕ) → w x y 
           at (no a) b (yes c) (yes d) = rw (c, d) round
           at (no a) b (yes c) (no d) = apart-cell (λ q. a (q .0)) (λ q. d (q .1))
           at (no a) b (no c) d = apart-cell (λ q. a (q .0)) (λ q. c (q .0))
+
+  -- So twice its weight comes to the sum over all.
+  pub around-joined : (F : Trees) (u v : ℕ) → ¬ Mates F u v → Metric F → u < n → v < n → aroundSum n w (joined F u v) ≡ aroundSum n w F + 2 * w u v
+  around-joined F u v apart M ub vb =
+      sum-same n _ _ (λ x hx. around-one F u v apart M ub vb x)
+      ∙ sum-add n (aroundOne F) (λ x. valueIf (eqb u x) (w u v) + valueIf (eqb v x) (w u v))
+      ∙ ap (λ (r : ℕ). aroundSum n w F + r) (sum-add n (λ x. valueIf (eqb u x) (w u v)) (λ x. valueIf (eqb v x) (w u v)) ∙ ap₂ _+_ (pick-value n u (w u v) ub) (pick-value n v (w u v) vb))
+      ∙ omega arith

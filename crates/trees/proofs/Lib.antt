@@ -23,6 +23,8 @@ pub mod Radius
 pub mod Points
 pub mod Edges
 pub mod EdgeSums
+pub mod Neighbours
+pub mod RootChosen
 pub mod FallSums
 pub mod Depth
 pub mod Defaults

@@ -89,3 +89,19 @@ module _ (n : ℕ) (lean : Trees → ℕ → ℕ) (F : Trees) where
   -- What goes before has no larger d.
   pub before-d : (y z : ℕ) → before n lean F y z ≡ true → d n F y ≤ d n F z
   before-d y z h = elim (true-ahead (d n F y) (d n F z) _ h) [ inl l ↦ omega arith | inr e ↦ omega (arith, e .0) ]
+
+  -- With the same d it has no larger lean.
+  pub before-lean : (y z : ℕ) → before n lean F y z ≡ true → d n F y ≡ d n F z → lean F y ≤ lean F z
+  before-lean y z h q =
+      elim (true-ahead (d n F y) (d n F z) _ h) [
+        | inl l ↦ absurd (omega arith)
+        | inr e ↦ elim (true-ahead (lean F y) (lean F z) _ (e .1)) [ inl l ↦ omega arith | inr f ↦ omega (arith, f .0) ]
+      ]
+
+  -- With the same lean too it has no larger number.
+  pub before-number : (y z : ℕ) → before n lean F y z ≡ true → d n F y ≡ d n F z → lean F y ≡ lean F z → y ≤ z
+  before-number y z h q r =
+      elim (true-ahead (d n F y) (d n F z) _ h) [
+        | inl l ↦ absurd (omega arith)
+        | inr e ↦ elim (true-ahead (lean F y) (lean F z) _ (e .1)) [ inl l ↦ absurd (omega arith) | inr f ↦ leb-true y z (f .1) ]
+      ]

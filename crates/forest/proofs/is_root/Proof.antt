@@ -13,10 +13,10 @@ use Rattle.forest.proofs.is_root.Statement.{statement}
 use Rattle.forest.proofs.is_root.Tie as tie
 
 abbrev Inv-loop : tie.InvT-loop
-Inv-loop d tree n y z₀ z = (z ≤ n) × (every z (besideRoot d tree y) ≡ true)
+Inv-loop d tree near n y z₀ z = (z ≤ n) × (every z (besideRoot d tree near y) ≡ true)
 
 abbrev μ-loop : tie.MeasureT-loop
-μ-loop d tree n y z₀ z = n - z
+μ-loop d tree near n y z₀ z = n - z
 
 loop-holds : tie.Need-loop-holds Inv-loop μ-loop
 loop-holds c = (omega arith, refl)
@@ -45,14 +45,26 @@ mul-stays-root-4 c = omega arith
 element-copy-out-stays-root-4 : tie.Need-element-copy-out-stays-root-4 Inv-loop μ-loop
 element-copy-out-stays-root-4 c = omega arith
 
+mul-stays-root-5 : tie.Need-mul-stays-root-5 Inv-loop μ-loop
+mul-stays-root-5 c = omega arith
+
+element-copy-out-stays-root-5 : tie.Need-element-copy-out-stays-root-5 Inv-loop μ-loop
+element-copy-out-stays-root-5 c = omega arith
+
+mul-stays-root-6 : tie.Need-mul-stays-root-6 Inv-loop μ-loop
+mul-stays-root-6 c = omega arith
+
+element-copy-out-stays-root-6 : tie.Need-element-copy-out-stays-root-6 Inv-loop μ-loop
+element-copy-out-stays-root-6 c = omega arith
+
 stays-root-requires : tie.Need-stays-root-requires Inv-loop μ-loop
 stays-root-requires c κs = search needs
 
 returns : tie.Need-returns Inv-loop μ-loop
 returns c =
-    let s = c .before .before .before .before .before .before .before in
+    let s = c .before .before .before .before .before .before .before .before .before in
     let a = s .before .args in
-    sym (every-fails (a .n) (s .loop .z) (besideRoot (now (a .d)) (now (a .tree)) (a .y)) (omega arith) (sym (c .before .stays-root .ensures) ∙ not-true _ (c .if1 .taken)))
+    sym (every-fails (a .n) (s .loop .z) (besideRoot (now (a .d)) (now (a .tree)) (now (a .near)) (a .y)) (omega arith) (sym (c .before .stays-root .ensures) ∙ not-true _ (c .if1 .taken)))
 
 add-z : tie.Need-add-z Inv-loop μ-loop
 add-z c = omega arith
@@ -62,9 +74,9 @@ loop-less c = omega arith
 
 loop-again : tie.Need-loop-again Inv-loop μ-loop
 loop-again c =
-    let s = c .before .before .before .before .before .before .before in
+    let s = c .before .before .before .before .before .before .before .before .before in
     let a = s .before .args in
-    (omega arith, every-more (s .loop .z) (besideRoot (now (a .d)) (now (a .tree)) (a .y)) (s .loop .inv .1) (sym (c .before .stays-root .ensures) ∙ not-false _ (c .if1 .left)))
+    (omega arith, every-more (s .loop .z) (besideRoot (now (a .d)) (now (a .tree)) (now (a .near)) (a .y)) (s .loop .inv .1) (sym (c .before .stays-root .ensures) ∙ not-false _ (c .if1 .left)))
 
 returns-2 : tie.Need-returns-2 Inv-loop μ-loop
 returns-2 c = let e : c .before .loop .z ≡ c .before .before .args .n = omega arith in sym (rw e at (c .before .loop .inv .1))
@@ -84,6 +96,10 @@ is-root-spec =
     element-copy-out-stays-root-3
     mul-stays-root-4
     element-copy-out-stays-root-4
+    mul-stays-root-5
+    element-copy-out-stays-root-5
+    mul-stays-root-6
+    element-copy-out-stays-root-6
     stays-root-requires
     returns
     add-z
