@@ -31,6 +31,7 @@ static const char help[] =
     "                                 which state falls back to which, as lines or for Graphviz\n"
     "\n"
     "Orders of pairs of equal weight: 0 by pair (where none is named), 1 the shortest path over the pair (BGS), 2 the least growth (REF).\n"
+    "Example: kamordast compact --order 2 examples/words.table 4 words.image\n"
     "Exit status: 0 done, 1 refused (the number and what to do on standard error), 2 usage, 3 file trouble.\n"
     "A file is written beside its place, read back and judged before it gets its name.\n";
 
