@@ -24,8 +24,9 @@ static void damage(uint8_t *bytes, size_t from, size_t to) {
 int main(void) {
     seed(3);
     for (uint32_t number = 0; number < CASES; number++) {
-        uint32_t n = 1 + below(6), k = 1 + below(9), bound = below(8);
-        size_t length = make_table(table, n, k, 100 + below(157)), list_length = 2 * n, room_length = below(8) ? ROOM : below(700);
+        uint32_t n = 1 + below(6), k = 1 + below(9), bound = below(8), alike = 100 + below(157);
+        size_t length = number % 3 ? make_table(table, n, k, alike) : make_levels(table, n, k, alike, 1 + below(n), 1 + number % 2);
+        size_t list_length = 2 * n, room_length = below(8) ? ROOM : below(700);
         make_defaults(list, n, 200);
         if (below(4) == 0) set16(list, 2 * below(n), below(n));
         kamordast_built built = kamordast_write(table, length, list, list_length, image, ROOM);
@@ -37,7 +38,7 @@ int main(void) {
         memset(by_archive, 0, ROOM);
         memset(by_c, 0, ROOM);
         same("judge a table", (kamordast_built){kamordast_judge_table(table, length), 0}, (kamordast_built){plain_judge_table(table, length), 0}, number);
-        for (uint32_t order = 0; order <= 3; order++)
+        for (uint32_t order = 0; order <= 4; order++)
             same("compact", kamordast_compact_in_order(table, length, order, (uint16_t)bound, by_archive, room_length),
                  plain_compact(table, length, order, bound, number % 2, by_c, room_length), number);
         same("write", kamordast_write(table, length, list, list_length, by_archive, room_length), plain_write(table, length, list, list_length, by_c, room_length), number);

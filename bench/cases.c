@@ -58,7 +58,18 @@ void use_largest(const char *shape, uint32_t bound) {
     snprintf(case_name, sizeof case_name, "%s rows, n %u, k %u, D %u", shape, (unsigned)n, (unsigned)k, (unsigned)bound);
 }
 
-void use_order(uint32_t order) { use_compacted(order, given.bound); }
+void use_levels(uint32_t bound) {
+    const uint32_t n = 512, k = 256;
+    seed(7);
+    given.table_length = make_levels(given.table, n, k, 200, n, 1);
+    use_compacted(0, bound);
+    snprintf(case_name, sizeof case_name, "511 levels, n %u, k %u, D %u", (unsigned)n, (unsigned)k, (unsigned)bound);
+}
+
+void use_order(uint32_t order) {
+    use_compacted(order, given.bound);
+    if (order == 3) *strstr(case_name, ", D") = 0;
+}
 
 void use_flat(void) {
     given.table_length = make_flat(given.table, given.defaults);

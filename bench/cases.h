@@ -14,7 +14,10 @@ void use_payload(int near);
 /* The largest table, n 512 and k 256, with equal, path or random rows, compacted with a bound. */
 void use_largest(const char *shape, uint32_t bound);
 
-/* The image of the same table and bound in another order. */
+/* The largest table with 511 levels behind the start, compacted with a bound. */
+void use_levels(uint32_t bound);
+
+/* The image of the same table and bound in another order; order 3 has no bound in its name. */
 void use_order(uint32_t order);
 
 /* Images of 512 states with 128 entries each, to judge: all states fall to the root; all in one chain. */

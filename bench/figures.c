@@ -89,6 +89,23 @@ static void order_rows(const operation *o, uint32_t order) {
     }
 }
 
+/* Compact in order 3, which has no bound, on the same tables and on one of 511 levels. */
+static void toward_rows(const operation *o) {
+    for (uint32_t k = 27; k <= 209; k += 182) {
+        use_words(k, 2);
+        use_order(3);
+        row(o);
+    }
+    for (size_t shape = 0; shape < 3; shape++) {
+        use_largest(shapes[shape], 3);
+        use_order(3);
+        row(o);
+    }
+    use_levels(3);
+    use_order(3);
+    row(o);
+}
+
 int main(void) {
     word_rows(&judging_a_table, 2);
     random_row(&judging_a_table);
@@ -104,6 +121,8 @@ int main(void) {
     random_row(&compact_seeking);
     order_rows(&compact_bgs, 1);
     order_rows(&compact_ref, 2);
+    toward_rows(&compact_toward);
+    toward_rows(&compact_toward_sparing);
     word_rows(&write_with_a_list, 2);
     random_row(&write_with_a_list);
     word_rows(&expand, 2);

@@ -39,8 +39,13 @@ typedef struct {
 /* Fills the chains and answers 1; 0 where a chain returns to a state. */
 int plain_order(const uint16_t *defaults, size_t n, plain_chains *chains);
 
-/* The defaults of the bounded greedy forest of an accepted table in an order. `seeking` tells how the pairs of one weight are found in order 0 (plain_forest.c). */
+/* The defaults of an accepted table in an order: of the bounded greedy forest, or in order 3 toward the start. `seeking` tells how the pairs of one weight are
+ * found in order 0 (plain_forest.c), and in order 3 that only the pairs that can count are weighed (plain_toward.c). */
 void plain_defaults(const uint8_t *table, size_t length, uint32_t order, uint32_t bound, int seeking, uint16_t *defaults);
+
+/* The defaults of order 3, from the weights of all pairs, the smaller state's row first; where they are NULL the shared classes are counted for the pairs of two
+ * levels only. */
+void plain_toward(const uint8_t *table, size_t length, const uint8_t *weights, uint16_t *defaults);
 
 /* The image of an accepted table with defaults, or refusal 16. */
 kamordast_built plain_image(const uint8_t *table, size_t length, const uint16_t *defaults, const plain_chains *chains, uint8_t *room, size_t room_length);

@@ -133,12 +133,20 @@ void plain_defaults(const uint8_t *table, size_t length, uint32_t order, uint32_
     size_t n = plain_number16(table), k = plain_number16(table + 2);
     const uint8_t *rows = table + length - 2 * n * k;
     joined_trees f;
+    if (order == 3 && seeking) {
+        plain_toward(table, length, NULL, defaults);
+        return;
+    }
     for (size_t u = 0; u < n; u++)
         for (size_t v = u + 1; v < n; v++) {
             uint16_t same = 0;
             for (size_t c = 0; c < k; c++) same += plain_number16(rows + 2 * (u * k + c)) == plain_number16(rows + 2 * (v * k + c));
             weights[u * 512 + v] = (uint8_t)(same ? same - 1 : 0);
         }
+    if (order == 3) {
+        plain_toward(table, length, weights, defaults);
+        return;
+    }
     for (size_t s = 0; s < n; s++) {
         f.d[s] = 0;
         f.parent[s] = f.tree[s] = (uint16_t)s;

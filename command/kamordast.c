@@ -31,7 +31,8 @@ static const char help[] =
     "                                 which state falls back to which, as lines or for Graphviz\n"
     "\n"
     "Orders of pairs of equal weight: 0 by pair (where none is named), 1 the shortest path over the pair (BGS), 2 the least growth (REF).\n"
-    "Example: kamordast compact --order 2 examples/words.table 4 words.image\n"
+    "Order 3 lets each state fall back toward the start: a whole payload from there costs no more hops than it has bytes, and BOUND changes nothing.\n"
+    "Example: kamordast compact --order 3 examples/words.table 0 words.image\n"
     "Exit status: 0 done, 1 refused (the number and what to do on standard error), 2 usage, 3 file trouble.\n"
     "A file is written beside its place, read back and judged before it gets its name.\n";
 
@@ -88,7 +89,7 @@ static int judge(const char *name) {
 }
 
 /* Reads a table and compacts it into the room, in an order and with a bound as they were typed. Answers DONE, or USAGE where a word is no number. An order too
- * large for 32 bits is as unknown as any above 2. */
+ * large for 32 bits is as unknown as any above 3. */
 static int compacted(const char *order_word, const char *table, const char *bound_word, kamordast_built *built) {
     long bound = number_of(bound_word, 65535);
     if (!*order_word || order_word[strspn(order_word, "0123456789")]) return usage("the order is a number");

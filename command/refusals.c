@@ -22,7 +22,7 @@ static const struct {
     {"the payload has more than 65,536 bytes", "cut the payload and carry the state over from one scan to the next"},
     {"the room for the result is too short", "give a larger room"},
     {0, 0}, /* 17 is not used */
-    {"there is no such order", "take order 0, 1 or 2; where none is named it is 0"},
+    {"there is no such order", "take order 0, 1, 2 or 3; where none is named it is 0"},
 };
 
 static int known(uint32_t number) { return number < sizeof sheet / sizeof *sheet && sheet[number].meaning; }

@@ -39,7 +39,9 @@ uint32_t kamordast_judge_image(const uint8_t *image, size_t image_length);
 kamordast_built kamordast_compact(const uint8_t *table, size_t table_length, uint16_t bound, uint8_t *room, size_t room_length);
 
 /* The same with the forest in an order: among pairs of equal weight order 0 goes by pair; order 1 (BGS) takes the pair with the shortest longest path over it
- * first; order 2 (REF) the pair that lengthens its trees' longest path least. An order above 2 is refused with 18. */
+ * first; order 2 (REF) the pair that lengthens its trees' longest path least. In order 3 there is no forest and the bound is ignored: each state that some payload
+ * reaches falls back to the state nearer the start that shares the most next states with it, in at least two classes, so that a scan from the start state never takes
+ * more hops than bytes. An order above 3 is refused with 18. */
 kamordast_built kamordast_compact_in_order(const uint8_t *table, size_t table_length, uint32_t order, uint16_t bound, uint8_t *room, size_t room_length);
 
 /* Writes a table with a list of defaults, 16 bits for each state and 65535 for none, into an image at the front of the room. */

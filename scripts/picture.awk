@@ -1,7 +1,8 @@
-# Draws docs/size-and-hops.svg from the lines of bench/bounds.c: file, n, k, order, bound, table bytes, image bytes, hops on average.
+# Draws docs/size-and-hops.svg from the lines of bench/bounds.c: file, n, k, order, bound, table bytes, image bytes, hops on average, hops of the
+# hardest payload.
 BEGIN {
     split("#0072b2 #d55e00 #007a5a", colour, " ")
-    split("none;7 3;2 3", dashes, ";") # of the orders 0, 1 and 2
+    split("none;7 3;2 3;12 3 2 3", dashes, ";") # of the orders 0 to 3
     top = 74; high = 280; step = 23
 }
 !($1 in number) {
@@ -16,6 +17,7 @@ BEGIN {
     slot = $5 > 12 ? 14 : $5
     share[t, $4, slot] = 100 * $7 / $6
     hops[t, $4, slot] = $8
+    hardest[t, $4, slot] = $9
 }
 function text(x, y, how, words) { printf "  <text x=\"%.1f\" y=\"%.1f\" %s>%s</text>\n", x, y, how, words }
 function stroke(x1, y1, x2, y2, how) { printf "  <line x1=\"%.1f\" y1=\"%.1f\" x2=\"%.1f\" y2=\"%.1f\" %s/>\n", x1, y1, x2, y2, how }
@@ -30,7 +32,7 @@ function up(value, most) { return top + high - high * (value > most ? most : val
 # Axes, grid and labels of one panel.
 function panel(left, most, each, unit, title,    value, slot, right) {
     right = across(left, 14) + 14
-    text(left, top - 34, "font-size=\"15\" font-weight=\"bold\"", title)
+    text(left, top - 54, "font-size=\"15\" font-weight=\"bold\"", title)
     for (value = 0; value <= most; value += each) {
         stroke(left, up(value, most), right, up(value, most), "stroke=\"" (value ? "#dddddd" : "#333333") "\"")
         text(left - 8, up(value, most) + 4, "text-anchor=\"end\"", value unit)
@@ -52,23 +54,39 @@ function curve(left, most, t, order, of,    slot, path, how) {
     for (slot = 0; slot <= 14; slot++) if (slot != 13) mark(t, across(left, slot), up(of[t, order, slot], most))
     if (of[t, order, 14] > most) text(across(left, 14) + 4, up(most, most) - 9 - 14 * order, "text-anchor=\"end\" fill=\"" colour[t] "\"", sprintf("order %d: %.1f, above the axis", order, of[t, order, 14]))
 }
+# The level line of one table in order 3, which has no bound, with a mark at each end.
+function level(left, most, t, of,    height) {
+    height = up(of[t, 3, 0], most)
+    stroke(across(left, 0), height, across(left, 14), height, "stroke=\"" colour[t] "\" stroke-width=\"2\" stroke-dasharray=\"" dashes[4] "\"")
+    mark(t, across(left, 0), height)
+    mark(t, across(left, 14), height)
+}
+function curves(left, most, of,    t, order) {
+    for (t = 1; t <= tables; t++) for (order = 0; order <= 2; order++) curve(left, most, t, order, of)
+    for (t = 1; t <= tables; t++) level(left, most, t, of)
+}
 END {
-    print "<svg xmlns=\"http://www.w3.org/2000/svg\" viewBox=\"0 0 900 496\" width=\"900\" height=\"496\" font-family=\"sans-serif\" font-size=\"12\" fill=\"#222222\">"
+    print "<svg xmlns=\"http://www.w3.org/2000/svg\" viewBox=\"0 0 1344 492\" width=\"1344\" height=\"492\" font-family=\"sans-serif\" font-size=\"12\" fill=\"#222222\">"
     print "  <title>Size and hops against the bound D</title>"
-    print "  <rect width=\"900\" height=\"496\" fill=\"#ffffff\"/>"
+    print "  <rect width=\"1344\" height=\"492\" fill=\"#ffffff\"/>"
     panel(66, 200, 25, "%", "Image, as a share of the plain table")
     stroke(66, up(100, 200), across(66, 14) + 14, up(100, 200), "stroke=\"#555555\" stroke-dasharray=\"6 4\"")
     text(across(66, 14) + 12, up(100, 200) + 14, "text-anchor=\"end\" font-size=\"11\" fill=\"#555555\"", "the plain table")
-    for (t = 1; t <= tables; t++) for (order = 0; order <= 2; order++) curve(66, 200, t, order, share)
+    curves(66, 200, share)
     panel(510, 3.5, 0.5, "", "Hops for a byte, on average")
-    for (t = 1; t <= tables; t++) for (order = 0; order <= 2; order++) curve(510, 3.5, t, order, hops)
+    curves(510, 3.5, hops)
+    panel(954, 6, 1, "", "Hops for a byte, hardest payload")
+    curves(954, 6, hardest)
     for (t = 1; t <= tables; t++) {
         stroke(66, 412 + 20 * t, 94, 412 + 20 * t, "stroke=\"" colour[t] "\" stroke-width=\"2\"")
         mark(t, 80, 412 + 20 * t)
         text(102, 416 + 20 * t, "", name[t] ": " told[t])
     }
-    text(510, 436, "", "Hops are averaged over all pairs of a state and a byte,")
-    text(510, 456, "", "each counted once; a payload may meet more or fewer.")
-    text(510, 476, "", "Whole lines: order 0. Dashes: order 1, BGS. Dots: order 2, REF.")
+    text(510, 436, "", "Average: over all pairs of a state and a byte, each counted once.")
+    text(510, 456, "", "Hardest payload: of 4,096 bytes from the start state, the one that")
+    text(510, 476, "", "costs the most hops of all.")
+    text(954, 436, "", "Whole lines: order 0. Dashes: order 1, BGS.")
+    text(954, 456, "", "Dots: order 2, REF.")
+    text(954, 476, "", "Level, dashes and dots: order 3, toward the start.")
     print "</svg>"
 }

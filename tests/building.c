@@ -1,68 +1,10 @@
-/* Write, expand and compact, in every order, against the independent reading: random tables and lists, valid and damaged, rooms exact, one short, longer and empty.
- * Buffers begin or end at a guard page, by turns; every byte of every room and every lent byte is compared. */
-#include <stdio.h>
+/* Write, expand and compact, in every order, against the independent reading: random tables and lists, valid and damaged, rooms exact, one short, longer and empty. */
 #include <string.h>
 
+#include "built.h"
 #include "kamordast.h"
 #include "reference/reference.h"
 #include "support.h"
-
-static guarded lent_input, lent_list, lent_room;
-static uint8_t table[LONGEST_TABLE], image[LONGEST_IMAGE], wanted[LONGEST_IMAGE + 64], defaults[1100];
-static uint32_t order; /* of the forest, where compact is run now */
-static uint64_t cases;
-static uint64_t given[19];
-
-enum operation { WRITE, EXPAND, COMPACT };
-
-/* Runs an operation in guarded buffers with a room of 170s and compares the answer and every byte. Answers the result's length. */
-static size_t compared(enum operation o, const uint8_t *input, size_t length, size_t list_length, uint32_t bound, size_t room_length) {
-    uint8_t *in = at_either(&lent_input, length, cases), *list = at_either(&lent_list, list_length, cases), *room = at_either(&lent_room, room_length, cases);
-    memcpy(in, input, length);
-    memcpy(list, defaults, list_length);
-    memset(room, 170, room_length);
-    memset(wanted, 170, room_length);
-    reference_built right;
-    kamordast_built answer;
-    switch (o) {
-    case WRITE:
-        right = reference_write(input, length, defaults, list_length, wanted, room_length);
-        answer = kamordast_write(in, length, list, list_length, room, room_length);
-        break;
-    case EXPAND:
-        right = reference_expand(input, length, wanted, room_length);
-        answer = kamordast_expand(in, length, room, room_length);
-        break;
-    default:
-        right = reference_compact(input, length, order, bound, wanted, room_length);
-        /* Order 0 by either name. */
-        answer = order == 0 && cases % 2 ? kamordast_compact(in, length, (uint16_t)bound, room, room_length)
-                                         : kamordast_compact_in_order(in, length, order, (uint16_t)bound, room, room_length);
-    }
-    if (answer.refused != right.refused) {
-        printf("operation %d: %u for %u: ", o, answer.refused, right.refused);
-        fail("the number differs", cases);
-    }
-    if (answer.length != right.length) fail("the length differs", cases);
-    if (memcmp(room, wanted, room_length)) fail("the room differs", cases);
-    if (memcmp(in, input, length) || memcmp(list, defaults, list_length)) fail("a lent byte was changed", cases);
-    given[right.refused]++;
-    cases++;
-    return right.length;
-}
-
-/* The same with rooms around the result's length. */
-static size_t with_rooms(enum operation o, const uint8_t *input, size_t length, size_t list_length, uint32_t bound) {
-    size_t most = o == EXPAND ? LONGEST_TABLE : LONGEST_IMAGE, result = compared(o, input, length, list_length, bound, most);
-    compared(o, input, length, list_length, bound, 0);
-    if (result) {
-        compared(o, input, length, list_length, bound, result);
-        compared(o, input, length, list_length, bound, result - 1);
-        compared(o, input, length, list_length, bound, result + 1 + below(40));
-        compared(o, input, length, list_length, bound, below((uint32_t)result));
-    }
-    return result;
-}
 
 static uint32_t some_size(uint32_t most) {
     switch (below(8)) {
@@ -107,20 +49,6 @@ static void round_trips(int rounds) {
     }
 }
 
-static void rows_of(uint32_t n, uint32_t k, const uint16_t *rows) {
-    set16(table, 0, n);
-    set16(table, 2, k);
-    set16(table, 4, 0);
-    memset(table + 6, 0, 256);
-    for (uint32_t c = 1; c < k; c++) table[6 + 96 + c] = (uint8_t)c;
-    memset(table + 262, 0, 2 * n);
-    for (uint32_t i = 0; i < n * k; i++) set16(table, 262 + 2 * n + 2 * i, rows[i]);
-}
-
-static void expect_image(uint32_t length, uint32_t entries, uint32_t depth, uint32_t worst, const char *name) {
-    if (number32(wanted, 8) != entries || number16(wanted, 6) != depth || number16(wanted, length - 4) != worst || number32(wanted, length - 8) != length) fail(name, cases);
-}
-
 /* The paper's own tables. */
 static void papers_cases(void) {
     static const uint16_t t[] = {0, 1, 0, 0, 1, 2, 0, 1, 3, 0, 1, 0}, three[] = {0, 0, 0, 1, 1, 1};
@@ -132,6 +60,13 @@ static void papers_cases(void) {
         if (compared(COMPACT, table, 294, 0, bound, lengths[bound]) != lengths[bound]) fail("T's length", bound);
         expect_image(lengths[bound], entries[bound], deep[bound], deep[bound], "T's numbers");
     }
+    order = 3;
+    for (uint32_t bound = 0; bound < 65536; bound += bound < 5 ? 1 : 13106) {
+        if (compared(COMPACT, table, 294, 0, bound, 324) != 324) fail("T's length in order 3", bound);
+        expect_image(324, 5, 1, 1, "T's numbers in order 3");
+        expect_defaults((const uint16_t[]){65535, 0, 0, 0}, "T's defaults in order 3");
+    }
+    order = 0;
     for (uint32_t s = 0; s < 4; s++) set16(defaults, 2 * s, s < 3 ? 3 : 65535);
     if (compared(WRITE, table, 294, 8, 0, 324) != 324) fail("T written with 0, 1 and 2 to 3", 0);
     expect_image(324, 5, 1, 1, "T written with 0, 1 and 2 to 3");
@@ -160,6 +95,10 @@ static void papers_cases(void) {
     order = 2;
     if (compared(COMPACT, table, 262 + 16 + 48, 0, 2, 340) != 340) fail("eight equal rows, REF", 0);
     expect_image(340, 3, 1, 1, "eight equal rows, REF");
+    /* No payload leaves the start, so in order 3 no state has a default. */
+    order = 3;
+    if (compared(COMPACT, table, 262 + 16 + 48, 0, 2, 424) != 424) fail("eight equal rows, toward the start", 0);
+    expect_image(424, 24, 0, 0, "eight equal rows, toward the start");
     order = 0;
     /* Figure 4.1 of document 000: with D 3 and more 6 entries and 5 defaults. */
     static const uint16_t figure[] = {1, 2, 3, 0, 1, 2, 3, 4, 1, 2, 3, 4, 1, 5, 3, 4, 1, 2, 3, 0, 1, 2, 3, 4};
@@ -208,25 +147,25 @@ static void orders(int rounds) {
     while (rounds--) {
         uint32_t n = 1 + below(rounds % 10 ? 12 : 24), k = 1 + below(5), bound = below(8) ? below(7) : 65535;
         size_t length = make_table(table, n, k, 128 + below(129));
-        for (order = 0; order <= 2; order++) compared(COMPACT, table, length, 0, bound, LONGEST_IMAGE);
+        for (order = 0; order <= 3; order++) compared(COMPACT, table, length, 0, bound, LONGEST_IMAGE);
     }
     order = 0;
 }
 
-/* Tables of up to 512 states in the orders 1 and 2, at all kinds of bounds and weights. */
+/* Tables of up to 512 states in the orders 1 to 3, at all kinds of bounds and weights. */
 static void large_orders(int rounds) {
     static const uint32_t bounds[] = {1, 2, 3, 4, 8, 20, 65535};
     while (rounds--) {
         uint32_t n = rounds % 25 ? 1 + below(160) : 512 - below(100), k = rounds % 4 ? 2 + below(20) : 256 - below(100);
         size_t length = make_table(table, n, k, rounds % 4 ? 180 + below(70) : 100 + below(150));
-        for (order = 1; order <= 2; order++) compared(COMPACT, table, length, 0, bounds[below(7)], LONGEST_IMAGE);
+        for (order = 1; order <= 3; order++) compared(COMPACT, table, length, 0, bounds[below(7)], LONGEST_IMAGE);
     }
     order = 0;
 }
 
-/* An order above 2 is refused before all else: a table of no bytes, one that is refused, a room of no bytes. */
+/* An order above 3 is refused before all else: a table of no bytes, one that is refused, a room of no bytes. */
 static void no_such_order(void) {
-    static const uint32_t none[] = {3, 4, 255, 256, 257, 258, 65535, 65536, 65537, 65538, 0x80000000, 0xffffffff};
+    static const uint32_t none[] = {4, 5, 255, 256, 257, 258, 259, 65535, 65536, 65537, 65538, 65539, 0x80000000, 0x80000003, 0xffffffff};
     size_t length = make_table(table, 5, 3, 200);
     for (size_t i = 0; i < sizeof none / sizeof *none; i++) {
         order = none[i];
@@ -234,15 +173,14 @@ static void no_such_order(void) {
         compared(COMPACT, table, length - 1, 0, 2, 400);
         with_rooms(COMPACT, table, length, 0, 2);
     }
-    for (order = 0; order <= 2; order++) compared(COMPACT, table, 0, 0, 2, 0);
+    uint64_t too_short = given[1];
+    for (order = 0; order <= 3; order++) compared(COMPACT, table, 0, 0, 2, 0);
+    if (given[1] != too_short + 4) fail("a table of no bytes is 1 in each order", cases);
     order = 0;
 }
 
 int main(void) {
-    lent_input = guard(LONGEST_IMAGE);
-    lent_list = guard(1100);
-    lent_room = guard(LONGEST_IMAGE + 64);
-    seed(4);
+    begin(4);
     papers_cases();
     wrong_centre();
     round_trips(2200);
@@ -250,9 +188,6 @@ int main(void) {
     no_such_order();
     orders(20000);
     large_orders(100);
-    printf("building: %llu cases agree\n  given  ", (unsigned long long)cases);
-    for (int r = 0; r < 19; r++)
-        if (given[r]) printf(" %d:%llu", r, (unsigned long long)given[r]);
-    printf("\n");
+    say("building");
     return 0;
 }

@@ -12,7 +12,7 @@
 /* Stands in a text where the next item of a list begins. */
 enum { ITEM = 1 };
 
-enum { SEED = 25, FILES = 15, ORDERED_FILES = 2, WHOLE = 7, ORDERED = 6, WIDTH = 150, MOST_BYTES = 1000, MOST_IMAGES = 40, MOST_CHANGES = 40 };
+enum { SEED = 25, FILES = 15, ORDERED_FILES = 2, WHOLE = 7, ORDERED = 6, TOWARD = 3, WIDTH = 150, MOST_BYTES = 1000, MOST_IMAGES = 40, MOST_CHANGES = 40 };
 
 typedef struct {
     size_t length;
@@ -495,9 +495,28 @@ static void ordered_row(uint32_t n, uint32_t deciding) {
     while (!decides(deciding, bound));
     for (order = 1; order <= 2; order++) some_compact(bound, 0);
     uint32_t above = below(70000);
-    order = below(2) ? 3 : 3 + above;
+    order = below(2) ? 4 : 4 + above;
     compacts(bound, below(2) ? 400 : 0);
     order = 0;
+    print_row(&table, &WHOLE_ONE, 0);
+}
+
+/* A row of order 3, on a table in levels with a chain of two defaults or more, some with a state that no payload reaches; and a scan of its image. */
+static void toward_row(uint32_t n, uint32_t reached, uint32_t wide) {
+    begin_row();
+    uint32_t bound = below(4);
+    piece trial;
+    do {
+        uint32_t k = 3 + below(2);
+        table.length = make_levels(table.bytes, n, k, 150 + below(80), reached, wide);
+        make_runs(k);
+        reference_compact(table.bytes, table.length, 3, bound, trial.bytes, MOST_BYTES);
+    } while (number16(trial.bytes, 6) < 2 || !decides(3, bound));
+    order = 3;
+    some_compact(bound, 0);
+    some_compact(bound ? 0 : 65535, 1);
+    order = 0;
+    some_scan(n);
     print_row(&table, &WHOLE_ONE, 0);
 }
 
@@ -511,7 +530,7 @@ static void broken_ordered_row(void) {
     table = damaged(&plain, &d);
     uint32_t judged = reference_judge_table(table.bytes, table.length);
     given[judged]++;
-    for (order = 1; order <= 3; order++) compacts(2, 400);
+    for (order = 1; order <= 4; order++) compacts(2, 400);
     order = 0;
     print_row(&plain, &d, judged);
 }
@@ -548,11 +567,12 @@ int main(int words, char **word) {
         fprintf(file, "    ∷ []\n");
         if (fclose(file)) fail("a file could not be written", (uint64_t)f);
     }
-    /* The orders 1 and 2, of up to 8 states: the prover takes long for them. */
-    static const uint32_t ordered[ORDERED] = {4, 5, 5, 6, 6, 7};
+    /* The orders 1 to 3, of up to 8 states: the prover takes long for the first two. */
+    static const uint32_t ordered[ORDERED] = {4, 5, 5, 6, 6, 7}, toward[TOWARD] = {5, 7, 8};
     for (int f = FILES + 1; f <= FILES + ORDERED_FILES; f++) {
         begin_file(word[1], f);
         for (uint32_t i = 0; i < ORDERED; i++) ordered_row(ordered[i] + below(2) * (i == ORDERED - 1), 1 + i % 2);
+        for (uint32_t i = 0; i < TOWARD; i++) toward_row(toward[i], toward[i] - i % 2, 1 + i);
         broken_ordered_row();
         fprintf(file, "    ∷ []\n");
         if (fclose(file)) fail("a file could not be written", (uint64_t)f);

@@ -1,5 +1,6 @@
-/* Images built before the root of a tree with two centres became the one with more neighbours, kept in tests/images: each is still judged good, expanded, scanned and
- * written again to the same bytes. All but T's have a tree that is now rooted at its other centre. */
+/* Images kept in tests/images: each is still judged good, expanded, scanned and written again to the same bytes. Those of the orders 0 to 2 were built before the
+ * root of a tree with two centres became the one with more neighbours; all but T's have a tree that is now rooted at its other centre. Those of order 3 are as that
+ * order first built them. */
 #include <stdio.h>
 #include <string.h>
 
@@ -14,6 +15,7 @@ static const struct {
 } stored[] = {
     {"T-bound-2", 0, 2, 1},           {"tree-of-five", 0, 65535, 0},   {"twelve-order-0", 0, 5, 0},
     {"twelve-order-1", 1, 3, 0},      {"twelve-order-2", 2, 3, 0},     {"forty-order-0", 0, 7, 0},
+    {"twelve-order-3", 3, 0, 1},      {"forty-order-3", 3, 0, 1},
 };
 
 static uint8_t image[LONGEST_IMAGE], table[LONGEST_TABLE], again[LONGEST_IMAGE], wanted[LONGEST_IMAGE], defaults[1024], payload[4096];
@@ -56,7 +58,7 @@ static void kept(size_t i) {
     kamordast_built anew = kamordast_compact_in_order(table, back.length, stored[i].order, (uint16_t)stored[i].bound, again, sizeof again);
     reference_built right = reference_compact(table, back.length, stored[i].order, stored[i].bound, wanted, sizeof wanted);
     if (anew.refused || anew.length != right.length || memcmp(again, wanted, anew.length)) fail("the table is not compacted as the reference does", i);
-    if (anew.length != length) fail("the rule of the root changed the length", i);
+    if (anew.length != length) fail("the length changed", i);
     if ((memcmp(again, image, length) == 0) != stored[i].built_so_now) fail("built so now, or not", i);
 
     for (size_t j = 0; j < sizeof payload; j++) payload[j] = (uint8_t)(below(4) ? 96 + below(8) : below(256));

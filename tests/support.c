@@ -55,15 +55,55 @@ size_t make_table(uint8_t *table, uint32_t n, uint32_t k, uint32_t alike) {
     return at;
 }
 
-void make_defaults(uint8_t *defaults, uint32_t n, uint32_t often) {
-    /* States in an order at random; each may fall to one before it. */
-    uint32_t order[512];
+/* The states in an order at random. */
+static void shuffle(uint32_t *order, uint32_t n) {
     for (uint32_t s = 0; s < n; s++) order[s] = s;
     for (uint32_t s = n; s > 1; s--) {
         uint32_t other = below(s), kept = order[s - 1];
         order[s - 1] = order[other];
         order[other] = kept;
     }
+}
+
+size_t make_levels(uint8_t *table, uint32_t n, uint32_t k, uint32_t alike, uint32_t reached, uint32_t wide) {
+    uint32_t order[512], on = k - 1, seen = 0;
+    size_t length = make_table(table, n, k, 0), rows = 262 + 2 * (size_t)n;
+    shuffle(order, n);
+    set16(table, 4, order[0]);
+    /* The class that leads on is one byte's. */
+    for (uint32_t x = 0; x < 256 && k > 1; x++)
+        if (table[6 + x] == on && seen++) table[6 + x] = (uint8_t)below(on);
+    for (uint32_t i = 0; i < n; i++) {
+        /* Behind state i of the order the next level begins: a row leads to the states before that place, and by one class behind it. */
+        uint32_t behind = 1 + (i + wide - 1) / wide * wide, ahead = behind + below(wide), most = i >= reached ? n : behind < reached ? behind : reached;
+        size_t row = rows + 2 * (size_t)order[i] * k, like = rows + 2 * (size_t)order[i ? below(i) : 0] * k;
+        for (uint32_t c = 0; c < k; c++) set16(table, row + 2 * c, i && below(256) < alike ? number16(table, like + 2 * c) : order[below(most)]);
+        if (ahead < reached) set16(table, row + 2 * on, order[ahead]);
+    }
+    return length;
+}
+
+size_t make_stairs(uint8_t *table) {
+    const uint32_t n = 512, k = 12;
+    size_t at = 262;
+    set16(table, 0, n);
+    set16(table, 2, k);
+    set16(table, 4, 0);
+    for (uint32_t x = 0; x < 256; x++) table[6 + x] = (uint8_t)(x < k ? x : k - 1);
+    for (uint32_t s = 0; s < n; s++, at += 2) set16(table, at, 0);
+    for (uint32_t s = 0; s < n; s++)
+        for (uint32_t c = 0; c < k; c++, at += 2) {
+            /* Ten classes lead to the last state, this one included, whose number ends in the class less one: a state differs from the one before it in one of them. */
+            uint32_t back = (s + 11 - c) % 10;
+            set16(table, at, c == 0 ? (s + 1 < n ? s + 1 : s) : c == k - 1 ? 1 : back <= s ? s - back : 0);
+        }
+    return at;
+}
+
+void make_defaults(uint8_t *defaults, uint32_t n, uint32_t often) {
+    /* States in an order at random; each may fall to one before it. */
+    uint32_t order[512];
+    shuffle(order, n);
     for (uint32_t i = 0; i < n; i++) set16(defaults, 2 * order[i], i > 0 && below(256) < often ? order[below(8) ? below(i) : i - 1] : 65535);
 }
 

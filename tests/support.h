@@ -25,6 +25,14 @@ void mend_check_word(uint8_t *image, size_t length);
 /* A table of n states and k classes whose rows are alike in `alike` of 256 cases; answers its length. */
 size_t make_table(uint8_t *table, uint32_t n, uint32_t k, uint32_t alike);
 
+/* A table in which payloads from the start reach at most `reached` states, in levels of at most `wide`; one byte alone leads from a level to the next. A row is like
+ * one of a state no farther from the start in `alike` of 256 cases. Answers the table's length. */
+size_t make_levels(uint8_t *table, uint32_t n, uint32_t k, uint32_t alike, uint32_t reached, uint32_t wide);
+
+/* The stairs: 512 states, each a level of its own. Byte 0 leads one state up, byte 11 from each state to state 1, and in order 3 each state falls to the one
+ * before it and to no other, so that byte 11 costs a hop for each level. Answers the table's length. */
+size_t make_stairs(uint8_t *table);
+
 /* A list of defaults without a circle: a state has one in `often` of 256 cases. */
 void make_defaults(uint8_t *defaults, uint32_t n, uint32_t often);
 

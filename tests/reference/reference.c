@@ -364,11 +364,8 @@ static uint32_t root_of(const forest *f, uint32_t x) {
     return root;
 }
 
-reference_built reference_compact(const uint8_t *t, size_t length, uint32_t order, uint32_t bound, uint8_t *room, size_t room_length) {
-    if (order > 2) return refuse(18);
-    uint32_t refused = reference_judge_table(t, length);
-    if (refused) return refuse(refused);
-    numbers *a = table_numbers(t);
+/* Orders 0 to 2: the defaults of the forest, each state's toward the root of its tree. */
+static void fall_to_roots(const numbers *a, uint32_t order, uint32_t bound, uint32_t *fallback) {
     forest *f = calloc(1, sizeof *f);
     f->n = a->n;
     uint8_t(*weight)[MOST_STATES] = calloc(MOST_STATES, sizeof *weight);
@@ -390,7 +387,6 @@ reference_built reference_compact(const uint8_t *t, size_t length, uint32_t orde
                 }
         take_pairs(f, order, bound, p, place);
     }
-    uint32_t fallback[MOST_STATES];
     for (uint32_t x = 0; x < a->n; x++) {
         int distance[MOST_STATES];
         distances(f, root_of(f, x), distance);
@@ -398,13 +394,65 @@ reference_built reference_compact(const uint8_t *t, size_t length, uint32_t orde
         for (uint32_t i = 0; i < f->degree[x]; i++)
             if (distance[f->neighbour[x][i]] == distance[x] - 1) fallback[x] = f->neighbour[x][i];
     }
-    size_t result_length;
-    uint8_t *result = image_of(a, fallback, &result_length);
     free(place);
     free(p);
     free(weight);
-    free(a);
     free(f);
+}
+
+/* The level of each state, the fewest bytes from the start state to it: a search that begins there and goes on by all 256 bytes. -1 where no payload leads. */
+static void find_levels(const numbers *a, int *level) {
+    uint32_t queue[MOST_STATES], head = 0, tail = 0;
+    for (uint32_t s = 0; s < a->n; s++) level[s] = -1;
+    level[a->start] = 0;
+    queue[tail++] = a->start;
+    while (head < tail) {
+        uint32_t s = queue[head++];
+        for (int x = 0; x < 256; x++) {
+            uint32_t to = a->next[s][a->class_of[x]];
+            if (level[to] >= 0) continue;
+            level[to] = level[s] + 1;
+            queue[tail++] = to;
+        }
+    }
+}
+
+/* Order 3: a state that is reached falls to the state of lower level, whichever lower level, that shares the most next states with it, in at least two classes; of
+ * several to the smallest number. A state that is not reached has no level, so it neither falls nor is fallen to. */
+static void fall_toward_start(const numbers *a, uint32_t *fallback) {
+    int level[MOST_STATES];
+    find_levels(a, level);
+    for (uint32_t x = 0; x < a->n; x++) {
+        uint32_t most = 0;
+        fallback[x] = NONE;
+        for (uint32_t y = 0; y < a->n; y++) {
+            if (level[x] < 0 || level[y] < 0 || level[y] >= level[x]) continue;
+            uint32_t shared = 0;
+            for (uint32_t c = 0; c < a->k; c++) shared += a->next[x][c] == a->next[y][c];
+            if (shared < 2 || shared <= most) continue;
+            most = shared;
+            fallback[x] = y;
+        }
+    }
+}
+
+void reference_levels(const uint8_t *t, int *level) {
+    numbers *a = table_numbers(t);
+    find_levels(a, level);
+    free(a);
+}
+
+reference_built reference_compact(const uint8_t *t, size_t length, uint32_t order, uint32_t bound, uint8_t *room, size_t room_length) {
+    if (order > 3) return refuse(18);
+    uint32_t refused = reference_judge_table(t, length);
+    if (refused) return refuse(refused);
+    numbers *a = table_numbers(t);
+    uint32_t fallback[MOST_STATES];
+    if (order == 3) fall_toward_start(a, fallback);
+    else fall_to_roots(a, order, bound, fallback);
+    size_t result_length;
+    uint8_t *result = image_of(a, fallback, &result_length);
+    free(a);
     return fill(result, result_length, room, room_length);
 }
 

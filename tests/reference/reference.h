@@ -15,6 +15,8 @@ typedef struct {
 
 uint32_t reference_judge_table(const uint8_t *table, size_t length);
 uint32_t reference_judge_image(const uint8_t *image, size_t length);
+/* The level of each state of an accepted table, the fewest bytes from the start state to it; -1 where no payload leads to it. */
+void reference_levels(const uint8_t *table, int *level);
 reference_built reference_compact(const uint8_t *table, size_t length, uint32_t order, uint32_t bound, uint8_t *room, size_t room_length);
 reference_built reference_write(const uint8_t *table, size_t length, const uint8_t *defaults, size_t defaults_length, uint8_t *room,
                                 size_t room_length);

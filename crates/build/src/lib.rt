@@ -63,7 +63,7 @@ pub fn compact(table: &[u8], order: u32, bound: u16, room: &mut [u8]) -> Built
     ensures { λ r. ⌜ Compacts (now (table .entry)) order bound (now (room .entry)) (r .refused) (r .length) (now (room .exit)) ⌝ }
 {
     // 18: there is no such order.
-    if 2 < order {
+    if 3 < order {
         return answers::not_built(18);
     }
     let judged = table::judge_table(table);
@@ -72,7 +72,7 @@ pub fn compact(table: &[u8], order: u32, bound: u16, room: &mut [u8]) -> Built
     }
     let n = words::get16(table, 0) as usize;
     let k = words::get16(table, 2) as usize;
-    let def = forest::defaults_of(table, n, k, order as u8, bound);
+    let def = choice::defaults_of(table, n, k, order as u8, bound);
     let o = chains::order_of(&def, n);
     let sorted = o.order;
     image_into(table, n, k, &def, &sorted, o.depth, room)

@@ -1,26 +1,25 @@
 -- With each tree turned to its root, the parents are the defaults of the definition.
-use mathlib.Core.Path.{_≡_, sym, _∙_, ap}
+use mathlib.Core.Path.{_≡_, sym, _∙_, ap, subst}
 use mathlib.Core.List.{List}
-use mathlib.Core.Logic.{_⊎_, inl, inr}
-use Prim.Native.Nat.{ℕ, _-_, _*_, _≤_, _<_}
+use mathlib.Core.Logic.{inl, inr}
+use Prim.Native.Nat.{ℕ, _-_, _≤_, _<_}
 use native.Mathlib.Omega.{arith}
 use native.Mathlib.Decide.{ℕ-discrete}
 use lib.ListN.{getD}
 use borrow.Author.Tests.{eq-eqb, ne-eqb}
-use Rattle.paper.specs.Image.{defaultFrom}
-use Rattle.paper.specs.Table.{states, classes}
-use Rattle.paper.specs.Forest.{Trees, weight, singles, falling, rest, lean, root, pointsTo, forest, defaults}
-use Rattle.facts.proofs.TableFacts.{AcceptedTable}
+use Rattle.paper.specs.Forest.{Trees, weight, singles, falling, rest, lean, root, pointsTo, forest, towardRoot}
 use Rattle.trees.proofs.Metric.{Metric, Nearer}
 use Rattle.trees.proofs.Inside.{Inside}
 use Rattle.trees.proofs.Roots.{root-of}
 use Rattle.trees.proofs.Points.{some-pointsTo, pointsTo-root}
 use Rattle.joining.specs.Filled.{Replaced}
 use Rattle.joining.specs.Rooted.{Rooted}
-use Rattle.greedy.specs.Good.{Good, Becomes, weightIn}
-use Rattle.forest.specs.Weighed.{Weighed, Single}
+use Rattle.weights.specs.Weighed.{weightIn}
+use Rattle.weights.specs.Chosen.{Stands}
+use Rattle.greedy.specs.Good.{Good, Becomes}
+use Rattle.forest.specs.Single.{Single}
 use Rattle.forest.specs.Settled.{Settled, Settles}
-use Rattle.forest.specs.Chosen.{Chosen}
+use Rattle.forest.specs.Chosen.{FindsRoots}
 use Rattle.forest.proofs.Falling.{falling-same}
 
 module _ (n : ℕ) (few : n ≤ 512) (F : Trees) (M : Metric F) (I : Inside n F) (far parent tree chosen : List ℕ) (S : Settled n F far parent tree n)
@@ -46,34 +45,30 @@ module _ (n : ℕ) (few : n ≤ 512) (F : Trees) (M : Metric F) (I : Inside n F)
       P .done s sb ∙ rw (ne-eqb (getD parent s 0) s other)
 
   -- What is chosen is the default.
-  pub chosen-points : (defaultFrom (getD chosen s 0) ≡ pointsTo n (lean n) F s) × ((getD chosen s 0 ≡ 65535) ⊎ (getD chosen s 0 < n))
+  pub chosen-points : Stands n (pointsTo n (lean n) F s) (getD chosen s 0)
   chosen-points =
       elim (ℕ-discrete s (root n (lean n) F s)) [
-        | yes e ↦ (rw (chosen-root e) (sym (pointsTo-root n (lean n) F M I s sb e)), inl (chosen-root e))
+        | yes e ↦ record { default-is = rw (chosen-root e) (sym (pointsTo-root n (lean n) F M I s sb e)); state-is = inl (chosen-root e) }
         | no ne ↦
             let N = up ne in
-            let below : getD parent s 0 < n = I s (getD parent s 0) sb (N .mate) in (
-              rw (chosen-other ne, ne-eqb (getD parent s 0) 65535 (λ e. omega arith)) (sym (some-pointsTo n (lean n) F M I s sb (getD parent s 0) N)),
-              inr (rw (chosen-other ne) below),
-            )
+            let below : getD parent s 0 < n = I s (getD parent s 0) sb (N .mate) in
+            record {
+              default-is = rw (chosen-other ne, ne-eqb (getD parent s 0) 65535 (λ e. omega arith)) (sym (some-pointsTo n (lean n) F M I s sb (getD parent s 0) N));
+              state-is = inr (rw (chosen-other ne) below);
+            }
       ]
 
--- Over the weights of an accepted table the pairs taken make its forest of single states, and settled and pointed it gives the defaults.
-pub chosen-defaults : (t : List ℕ) (n k order D : ℕ) → AcceptedTable t → n ≡ states t → k ≡ classes t
-    → (weights far₀ parent₀ tree₀ far parent tree settled chosen : List ℕ) → Weighed t n weights (n * 512)
+-- Over the weights of a table the pairs taken make its forest of single states, and settled and pointed it gives the defaults.
+pub chosen-defaults : (n k order D : ℕ) → n ≤ 512 → (weights far₀ parent₀ tree₀ far parent tree settled chosen : List ℕ)
     → Single far₀ parent₀ tree₀ → Becomes n D (falling n (rest order n) D (weightIn weights) (k - 1)) far₀ parent₀ tree₀ far parent tree
-    → Settles n far parent tree settled n → Replaced (λ x. x) 65535 settled chosen n → Chosen t n order D chosen
-unfolding forest defaults
-chosen-defaults t n k order D A en ek weights far₀ parent₀ tree₀ far parent tree settled chosen W S B T P =
-    let few : n ≤ 512 = omega (arith, A .few-states) in
+    → Settles n far parent tree settled n → Replaced (λ x. x) 65535 settled chosen n → FindsRoots n k order D weights chosen
+unfolding forest towardRoot
+chosen-defaults n k order D few weights far₀ parent₀ tree₀ far parent tree settled chosen S B T P t en ek W =
     let all : falling n (rest order n) D (weightIn weights) (k - 1) singles ≡ forest t order D =
     falling-same n (weightIn weights) (weight t) (λ u v uv vb. W u v uv vb (omega arith)) (rest order n) D (k - 1) singles ∙ rw (en, ek) in
     let G : Good n D (forest t order D) far parent tree = rw all at (B .good singles (S .good n D few)) in
     let F = forest t order D in
     let M = G .grown .metric in
     let I = G .grown .inside in
-    let each = chosen-points n few F M I far settled tree chosen (T .settled F M I (G .held)) P in
-    record {
-      defaults-are = λ s sb. each s sb .0 ∙ rw en;
-      states-are = λ s sb. each s sb .1;
-    }
+    λ s sb.
+    subst (λ (m : ℕ). Stands n (pointsTo m (lean m) F s) (getD chosen s 0)) en (chosen-points n few F M I far settled tree chosen (T .settled F M I (G .held)) P s sb)

@@ -1,6 +1,4 @@
 pub mod Every
-pub mod Counting
-pub mod Weighed
 pub mod Falling
 pub mod Single
 pub mod Beside

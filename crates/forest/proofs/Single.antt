@@ -8,7 +8,7 @@ use Rattle.paper.specs.Forest.{singles}
 use Rattle.trees.proofs.Farthest.{d-least}
 use Rattle.trees.proofs.Grown.{singles-grown}
 use Rattle.joining.proofs.Filled.{getD-set}
-use Rattle.forest.specs.Weighed.{Own, Single}
+use Rattle.forest.specs.Single.{Own, Single}
 
 -- One place more holds its own number.
 pub own-more : (own : List ℕ) (i : ℕ) → i < length own → Own own i → Own (set own i i) (i + 1)

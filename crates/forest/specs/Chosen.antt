@@ -1,13 +1,12 @@
--- The defaults of a table in an array.
+-- The defaults toward the roots, by weights in an array.
 use mathlib.Core.Path.{_≡_}
 use mathlib.Core.List.{List}
-use mathlib.Core.Logic.{_⊎_}
-use Prim.Native.Nat.{ℕ, _<_}
-use lib.ListN.{getD}
-use Rattle.paper.specs.Image.{defaultFrom}
-use Rattle.paper.specs.Forest.{defaults}
+use Prim.Native.Nat.{ℕ, _*_}
+use Rattle.paper.specs.Table.{states, classes}
+use Rattle.paper.specs.Forest.{towardRoot}
+use Rattle.weights.specs.Weighed.{Weighed}
+use Rattle.weights.specs.Chosen.{Chosen}
 
--- For each state below n the array holds its default in the forest of the table t in an order with path bound D: 65535 for none, else a state below n.
-pub record Chosen (t : List ℕ) (n order D : ℕ) (chosen : List ℕ) : Type 0 where
-  pub defaults-are : (s : ℕ) → s < n → defaultFrom (getD chosen s 0) ≡ defaults t order D s
-  pub states-are : (s : ℕ) → s < n → (getD chosen s 0 ≡ 65535) ⊎ (getD chosen s 0 < n)
+-- Whatever table of n states and k classes the weights are of, the array holds its defaults toward the roots in an order with path bound D.
+abbrev pub FindsRoots : ℕ → ℕ → ℕ → ℕ → List ℕ → List ℕ → Type 0
+FindsRoots n k order D weights chosen = (t : List ℕ) → n ≡ states t → k ≡ classes t → Weighed t n weights (n * 512) → Chosen n (towardRoot t order D) chosen

@@ -1,4 +1,4 @@
-pub mod Weighed
+pub mod Single
 pub mod Beside
 pub mod Settled
 pub mod Chosen

@@ -1,47 +1,13 @@
-// The bounded forest of a table, and the defaults that it gives.
+// The bounded forest by the weights of pairs, and the defaults that it gives.
 ghost use mathlib.Core.Path.{_≡_};
-ghost use Prim.Native.Nat.{_*_, _≤_, _<_};
-ghost use lib.ListN.{length};
-ghost use Rattle.paper.specs.Table.{states, classes};
-ghost use Rattle.paper.specs.Forest.{weight};
-ghost use Rattle.facts.proofs.TableFacts.{AcceptedTable};
-ghost use Rattle.table.specs.Counted.{Counted};
+ghost use Prim.Native.Nat.{_≤_, _<_};
 ghost use Rattle.joining.specs.Filled.{Replaced};
 ghost use Rattle.joining.specs.Rooted.{Low};
-ghost use Rattle.forest.specs.Weighed.{Weighed, Own, Single};
+ghost use Rattle.forest.specs.Single.{Own, Single};
 ghost use Rattle.forest.specs.Beside.{NeighboursIn};
 ghost use Rattle.forest.specs.Settled.{staysRoot, rootIn, Settles};
-ghost use Rattle.forest.specs.Chosen.{Chosen};
+ghost use Rattle.forest.specs.Chosen.{FindsRoots};
 use joining::Forest;
-
-// The weight of a pair of states: the number of classes for which their rows have equal next states, less one.
-fn weight_of(t: &[u8], n: usize, k: usize, u: usize, v: usize) -> u8
-    requires { ⌜ Counted (now t) n k × (u < n) × (v < n) ⌝ }
-    ensures { λ r. ⌜ r ≡ weight (now (t .entry)) u v ⌝ }
-{
-    let mut same: u16 = 0;
-    for c in 0..k {
-        if table::next_state(t, n, k, u, c) == table::next_state(t, n, k, v, c) {
-            same += 1;
-        }
-    }
-    if same == 0 {
-        return 0;
-    }
-    (same - 1) as u8
-}
-
-// The weights of all pairs, the first state below the second.
-fn weigh_all(t: &[u8], n: usize, k: usize, weights: &mut [u8; 262144])
-    requires { ⌜ Counted (now t) n k × (length (now weights) ≡ 262144) ⌝ }
-    ensures { λ _. ⌜ Weighed (now (t .entry)) n (now (weights .exit)) (n * 512) ⌝ }
-{
-    for u in 0..n {
-        for v in u + 1..n {
-            weights[u * 512 + v] = weight_of(t, n, k, u, v);
-        }
-    }
-}
 
 // The numbers 0 to 511.
 fn own_numbers() -> [u16; 512]
@@ -149,13 +115,11 @@ fn pointers(parent: [u16; 512], n: usize) -> [u16; 512]
     chosen
 }
 
-// The defaults of an accepted table in the forest in this order with this path bound: for each state its default, or 65535 for none.
-pub fn defaults_of(t: &[u8], n: usize, k: usize, order: u8, bound: u16) -> [u16; 512]
-    requires { ⌜ AcceptedTable (now t) × (n ≡ states (now t)) × (k ≡ classes (now t)) ⌝ }
-    ensures { λ r. ⌜ Chosen (now (t .entry)) n order bound r ⌝ }
+// The defaults toward the roots of the forest in one of the orders 0, 1 and 2 with this path bound, by the weights of a table of n states and k classes: for each state its default, or 65535 for none.
+pub fn defaults_of(weights: &[u8; 262144], n: usize, k: usize, order: u8, bound: u16) -> [u16; 512]
+    requires { ⌜ (n ≤ 512) × (0 < k) × (k ≤ 256) ⌝ }
+    ensures { λ r. ⌜ FindsRoots n k order bound (now (weights .entry)) r ⌝ }
 {
-    let mut weights = [0u8; 262144];
-    weigh_all(t, n, k, &mut weights);
-    let f = greedy::take_all(single_states(), &weights, n, order, bound, (k - 1) as u8);
+    let f = greedy::take_all(single_states(), weights, n, order, bound, (k - 1) as u8);
     pointers(settle(f, n), n)
 }

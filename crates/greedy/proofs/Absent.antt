@@ -1,25 +1,19 @@
 -- A weight that no pair has: its level changes nothing.
 use mathlib.Core.Path.{_≡_}
 use mathlib.Core.List.{List}
-use Prim.Native.Nat.{ℕ, _+_, _*_, _≤_, _<_}
+use Prim.Native.Nat.{ℕ, _*_, _≤_, _<_}
 use native.Mathlib.Omega.{arith}
-use lib.Dec.{eqb}
 use lib.ListN.{getD}
-use borrow.Author.Tests.{eqb-false}
 use Rattle.paper.specs.Forest.{Trees}
-use Rattle.paper.proofs.Below.{any-at}
 use Rattle.trees.proofs.Best.{levelOf, level-ends}
 use Rattle.joining.specs.Held.{Whole}
-use Rattle.greedy.specs.Good.{Becomes, weightIn, Absent}
+use Rattle.weights.specs.Weighed.{weightIn}
+use Rattle.greedy.specs.Good.{Becomes, Absent}
 use Rattle.greedy.specs.Weights.{Named}
-use Rattle.greedy.proofs.Weights.{named-absent}
 
 -- A number that has no mark is no pair's weight.
-pub unseen-absent : (marks weights : List ℕ) (n w : ℕ) → n ≤ 512 → w < 256 → 0 < w → Named marks (λ j. getD weights j 0) (n * 512) → getD marks w 0 ≡ 0
-    → Absent n (weightIn weights) w
-unseen-absent marks weights n w l h some named e u v uv vn =
-    eqb-false (weightIn weights u v) w
-    (any-at (n * 512) (u * 512 + v) (λ j. eqb (getD weights j 0) w) (named-absent marks (λ j. getD weights j 0) (n * 512) w h named some e) (omega arith))
+pub unseen-absent : (marks weights : List ℕ) (n w : ℕ) → n ≤ 512 → 0 < w → Named weights n (n * 512) marks → getD marks w 0 ≡ 0 → Absent n (weightIn weights) w
+unseen-absent marks weights n w few some N e u v uv vn q = omega (arith, rw q at (N .stands u v uv vn (omega arith)))
 
 -- Where no pair has the weight the arrays are what they were.
 pub becomes-absent : (n : ℕ) (rest : Trees → ℕ × ℕ → ℕ) (D : ℕ) (weight : ℕ → ℕ → ℕ) (w : ℕ) → Absent n weight w → (far parent tree : List ℕ) → Whole far parent tree

@@ -1,16 +1,12 @@
 -- Weights sought in the array: what the search has passed, and marks that are the numbers themselves.
-use mathlib.Core.Path.{_≡_, refl, sym}
-use mathlib.Core.Bool.{Bool, true, false, cond, _||_, or-true, or-false}
+use mathlib.Core.Path.{_≡_, refl, sym, ap, _∙_}
 use mathlib.Core.List.{List}
-use Prim.Native.Nat.{ℕ, _+_, _≤_, _<_}
-use native.Mathlib.Numerals.{add-one}
-use native.Mathlib.Decide.{ℕ-discrete}
+use Prim.Native.Nat.{ℕ, _+_, _*_, _≤_, _<_}
+use native.Mathlib.Decide.{ℕ-discrete, decLt}
 use native.Mathlib.Omega.{arith}
-use lib.Dec.{eqb}
 use lib.ListN.{length, getD, set, replicate, getD-replicate}
 use lib.Seq.{getD-set-same, getD-set-other}
-use borrow.Author.Tests.{eq-eqb, ne-eqb}
-use Rattle.paper.specs.Below.{any}
+use Rattle.weights.specs.Weighed.{weightIn}
 use Rattle.greedy.specs.Weights.{Named}
 
 -- No place of a row from `from` on and before v has weight w.
@@ -21,31 +17,46 @@ Passed row from w v = (j : ℕ) → from ≤ j → j < v → ¬ (row j ≡ w)
 pub passed-more : (row : ℕ → ℕ) (from w v : ℕ) → Passed row from w v → ¬ (row v ≡ w) → Passed row from w (v + 1)
 passed-more row from w v P n j h l = elim (ℕ-discrete j v) [ yes e ↦ λ q. n (rw e at q) | no e ↦ P j h (omega arith) ]
 
--- No marks are those of no places.
-pub named-nothing : (at : ℕ → ℕ) → Named (replicate 256 0) at 0
-named-nothing at c h = getD-replicate 256 c 0 0 h
+module _ (weights : List ℕ) (n : ℕ) (few : n ≤ 512) where
+  -- At the start no pair's weight stands there.
+  pub named-starts : Named weights n (0 * 512) (replicate 256 0)
+  named-starts = record { stands = λ u v uv vb l. absurd (omega arith); own = λ c h ne. absurd (ne (getD-replicate 256 c 0 0 h)) }
 
--- With the next place's number set down they are those of one place more.
-pub named-more : (marks : List ℕ) (at : ℕ → ℕ) (x v : ℕ) → length marks ≡ 256 → v ≡ at x → v < 256 → Named marks at x → Named (set marks v v) at (x + 1)
-named-more marks at x v e w l named c h = rw (add-one x, ← w) (go (ℕ-discrete c v))
-  where
-    go : Dec (c ≡ v) → getD (set marks v v) c 0 ≡ cond (any x (λ y. eqb (at y) c) || eqb v c) c 0
-    go (yes q) = rw (q, getD-set-same marks v v 0 (omega arith), eq-eqb v v refl, or-true)
-    go (no q) = rw (getD-set-other marks v c v 0 q, ne-eqb v c (λ w. q (sym w)), or-false) (named c h)
+  module _ (marks : List ℕ) (u : ℕ) where
+    -- No pair stands between the beginning of a first state's places and the pair with the state after it.
+    pub named-skips : Named weights n (u * 512) marks → Named weights n (u * 512 + (u + 1)) marks
+    named-skips N =
+        record {
+          stands = λ x y xy yb l. N .stands x y xy yb (elim (decLt x u) [ yes h ↦ omega arith | no h ↦ absurd (omega arith) ]);
+          own = N .own;
+        }
 
-module _ (marks : List ℕ) (at : ℕ → ℕ) (places c : ℕ) (h : c < 256) (named : Named marks at places) where
-  -- A mark that is not 0 is its own place.
-  pub named-own : ¬ (getD marks c 0 ≡ 0) → getD marks c 0 ≡ c
-  named-own n = go (any places (λ x. eqb (at x) c)) (named c h)
-    where
-      go : (b : Bool) → getD marks c 0 ≡ cond b c 0 → getD marks c 0 ≡ c
-      go true e = e
-      go false e = absurd (n e)
+    -- No pair stands between the last of a first state's and the next first state's places.
+    pub named-ends : Named weights n (u * 512 + n) marks → Named weights n ((u + 1) * 512) marks
+    named-ends N =
+        record {
+          stands = λ x y xy yb l. N .stands x y xy yb (elim (decLt x u) [ yes h ↦ omega arith | no h ↦ omega arith ]);
+          own = N .own;
+        }
 
-  -- Where another place than 0 has no mark no place has its number.
-  pub named-absent : 0 < c → getD marks c 0 ≡ 0 → any places (λ x. eqb (at x) c) ≡ false
-  named-absent l z = go (any places (λ x. eqb (at x) c)) (named c h)
-    where
-      go : (b : Bool) → getD marks c 0 ≡ cond b c 0 → b ≡ false
-      go true e = absurd (omega arith)
-      go false e = refl
+    -- The next pair's weight is set down.
+    pub named-more : (v w : ℕ) → v < n → length marks ≡ 256 → w ≡ weightIn weights u v → w < 256 → Named weights n (u * 512 + v) marks
+        → Named weights n (u * 512 + (v + 1)) (set marks w w)
+    named-more v w vb long e small N =
+        record {
+          stands = λ x y xy yb l. stands x y xy yb l (ℕ-discrete (weightIn weights x y) w);
+          own = λ c h. own c h (ℕ-discrete c w);
+        }
+      where
+        stands : (x y : ℕ) → x < y → y < n → x * 512 + y < u * 512 + (v + 1) → Dec (weightIn weights x y ≡ w) → getD (set marks w w) (weightIn weights x y) 0 ≡ weightIn weights x y
+        stands x y xy yb l (yes q) = rw (q, getD-set-same marks w w 0 (omega arith)) refl
+        stands x y xy yb l (no q) =
+            getD-set-other marks w (weightIn weights x y) w 0 q
+            ∙ N .stands x y xy yb (elim (ℕ-discrete (x * 512 + y) (u * 512 + v)) [
+              | yes z ↦ absurd (q (ap (λ (j : ℕ). getD weights j 0) z ∙ sym e))
+              | no z ↦ omega arith
+            ])
+
+        own : (c : ℕ) → c < 256 → Dec (c ≡ w) → ¬ (getD (set marks w w) c 0 ≡ 0) → getD (set marks w w) c 0 ≡ c
+        own c h (yes q) ne = rw (q, getD-set-same marks w w 0 (omega arith)) refl
+        own c h (no q) ne = getD-set-other marks w c w 0 q ∙ N .own c h (λ z. ne (getD-set-other marks w c w 0 q ∙ z))

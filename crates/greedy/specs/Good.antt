@@ -2,9 +2,8 @@
 use mathlib.Core.Path.{_≡_}
 use mathlib.Core.Bool.{Bool, _&&_}
 use mathlib.Core.List.{List}
-use Prim.Native.Nat.{ℕ, _+_, _*_, _<_}
+use Prim.Native.Nat.{ℕ, _+_, _<_}
 use lib.Dec.{leb, eqb}
-use lib.ListN.{getD}
 use Rattle.paper.specs.Below.{differ}
 use Rattle.paper.specs.Forest.{Trees}
 use Rattle.trees.proofs.Grown.{Grown}
@@ -19,10 +18,6 @@ pub record Good (n D : ℕ) (F : Trees) (far parent tree : List ℕ) : Type 0 wh
 pub record Becomes (n D : ℕ) (made : Trees → Trees) (far₀ parent₀ tree₀ far parent tree : List ℕ) : Type 0 where
   pub whole : Whole far parent tree
   pub good : (F : Trees) → Good n D F far₀ parent₀ tree₀ → Good n D (made F) far parent tree
-
--- The weight of the pair (u, v) in an array of all weights, 512 to a first state.
-abbrev pub weightIn : List ℕ → ℕ → ℕ → ℕ
-weightIn weights u v = getD weights (u * 512 + v) 0
 
 -- A pair of weight x is added among those of weight w: its ends lie in different trees, and the path over it is at most D.
 abbrev pub isTaken : ℕ → ℕ → ℕ → ℕ → ℕ → ℕ → ℕ → Bool

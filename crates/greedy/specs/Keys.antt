@@ -3,7 +3,8 @@ use mathlib.Core.Bool.{Bool}
 use mathlib.Core.List.{List}
 use Prim.Native.Nat.{ℕ, zero, suc, _+_, _-_, max}
 use lib.ListN.{getD}
-use Rattle.greedy.specs.Good.{weightIn, isTaken}
+use Rattle.weights.specs.Weighed.{weightIn}
+use Rattle.greedy.specs.Good.{isTaken}
 
 -- The number that orders pairs of equal weight, from the longest distances of both states and the longest paths of their trees.
 abbrev pub keyOf : ℕ → ℕ → ℕ → ℕ → ℕ → ℕ

@@ -1,11 +1,11 @@
 // The pairs of states taken by falling weight, each added or dropped for good.
 ghost use mathlib.Core.Path.{_≡_};
 ghost use Prim.Native.Nat.{_*_, _≤_, _<_};
-ghost use lib.ListN.{getD};
 ghost use Rattle.paper.specs.Forest.{rest, falling};
 ghost use Rattle.trees.proofs.Best.{levelOf};
 ghost use Rattle.joining.specs.Rooted.{Low};
-ghost use Rattle.greedy.specs.Good.{Becomes, weightIn, isTaken};
+ghost use Rattle.weights.specs.Weighed.{weightIn};
+ghost use Rattle.greedy.specs.Good.{Becomes, isTaken};
 ghost use Rattle.greedy.specs.Weights.{Next, Named};
 use joining::Forest;
 
@@ -48,15 +48,7 @@ fn take_level(f0: Forest, weights: &[u8; 262144], n: usize, bound: u16, w: u8) -
     for u in 0..n {
         let mut v = next_of(weights, n, u, u + 1, w);
         while v < n {
-            if takes(
-                weights[u * 512 + v],
-                w,
-                f.tree[u],
-                f.tree[v],
-                f.d[u],
-                f.d[v],
-                bound,
-            ) {
+            if takes(w, w, f.tree[u], f.tree[v], f.d[u], f.d[v], bound) {
                 f = joining::join(f, n, u, v);
             }
             v = next_of(weights, n, u, v + 1, w);
@@ -88,17 +80,17 @@ fn take_best(f0: Forest, weights: &[u8; 262144], n: usize, order: u8, bound: u16
     f
 }
 
-// Which numbers stand among the weights of n first states: each that does stands at its own place, and 0 at every other.
+// Which weights the pairs of n states have: each stands at its own place, and 0 or its own number at every other.
 fn weights_seen(weights: &[u8; 262144], n: usize) -> [u8; 256]
     requires { ⌜ n ≤ 512 ⌝ }
-    ensures { λ r. ⌜ Named r (λ j. getD (now (weights .entry)) j 0) (n * 512) ⌝ }
+    ensures { λ r. ⌜ Named (now (weights .entry)) n (n * 512) r ⌝ }
 {
     let mut seen = [0u8; 256];
-    let mut j = 0;
-    while j < n * 512 {
-        let w = weights[j];
-        seen[words::wide(w) as usize] = w;
-        j += 1;
+    for u in 0..n {
+        for v in u + 1..n {
+            let w = weights[u * 512 + v];
+            seen[words::wide(w) as usize] = w;
+        }
     }
     seen
 }

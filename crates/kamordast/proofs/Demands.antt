@@ -4,21 +4,24 @@ use mathlib.Core.Path.{_≡_}
 use mathlib.Core.Logic.{_↔_}
 use mathlib.Core.Bool.{true}
 use mathlib.Core.List.{List, [], _∷_}
-use mathlib.Core.Option.{none}
+use mathlib.Core.Option.{none, some}
 use Prim.Native.Nat.{ℕ, _+_, _-_, _*_, _/_, _≤_, _<_}
 use lib.ListN.{length, take}
 use Rattle.paper.specs.Below.{sum, howMany, given}
 use Rattle.paper.specs.Words.{byteAt, Bytes}
-use Rattle.paper.specs.Table.{states, classes}
+use Rattle.paper.specs.Table.{states, classes, start}
 use Rattle.paper.specs.View.{look}
 use Rattle.paper.specs.Image as image
 use Rattle.paper.specs.Image.{imageView}
 use Rattle.paper.specs.Results.{defaultsOf, tableOf}
-use Rattle.paper.specs.Forest.{Trees, longest, weight, singles, neighbours, weightsOf, rest, forest, defaults}
+use Rattle.paper.specs.Forest.{Trees, longest, weight, singles, neighbours, weightsOf, rest, forest}
 use Rattle.paper.specs.Levels.{levels}
 use Rattle.paper.specs.BestPair.{JoinsAll}
 use Rattle.paper.specs.Paths.{TrueDistances}
 use Rattle.paper.specs.Roots.{pairsAt, GoesBefore}
+use Rattle.paper.specs.FallBack.{level}
+use Rattle.paper.specs.Defaults.{defaults}
+use Rattle.paper.specs.Reached.{LeadsTo, HasLevel}
 use Rattle.paper.specs.Operations.{judgeTable, judgeImage, result, Unchanged, building, compact, write, expand, scan}
 use Rattle.paper.specs.Promises.{SameBuilt, JudgesTable, JudgesImage, Compacts, Writes, Expands, Scans}
 use Rattle.paper.specs.Sentences.{FirstOf, Ends, LongestChain, Serves, LargestHops, tableSentences, imageSentences, compactSentences, writeSentences, expandSentences, scanSentences}
@@ -30,15 +33,18 @@ use Rattle.paper.proofs.Exact as exact
 use Rattle.paper.proofs.Determined as one
 use Rattle.paper.proofs.Cases as stars
 use Rattle.paper.proofs.Refused as refusing
+use Rattle.facts.proofs.TableFacts.{accepted-table}
 use Rattle.facts.proofs.ImageFacts.{accepted-image}
 use Rattle.facts.proofs.Finds as finds
 use Rattle.damage.proofs.Damage as damage
 use Rattle.trees.proofs.TrueDistances as trees
 use Rattle.trees.proofs.Neighbours as around
 use Rattle.trees.proofs.Best.{falling-joins, joins-falling}
+use Rattle.levels.proofs.Payloads as reached
 use Rattle.trips.proofs.ExpandsBack as expands
 use Rattle.trips.proofs.WritesBack as writes
 use Rattle.scan.proofs.Hops as hops
+use Rattle.nearing.proofs.Scan as nearing
 use Rattle.kamordast.proofs.Scanned as scanned
 use Rattle.kamordast.proofs.Compacted as compacted
 
@@ -67,13 +73,13 @@ prefix-refused = damage.prefix-refused
 pub altered-refused : (b b′ : List ℕ) → Bytes b → Bytes b′ → judgeImage b ≡ 0 → Altered b b′ → ¬ (judgeImage b′ ≡ 0)
 altered-refused = damage.altered-refused
 
--- The defaults in what compact leaves are those of the bounded greedy forest in the order asked for, and in order 0 that forest is three loops: over falling weights, first states and second states.
+-- The defaults in what compact leaves are those of the order asked for: in the orders 0, 1 and 2 of the bounded greedy forest, in order 3 toward the start. In order 0 that forest is three loops: over falling weights, first states and second states.
 pub forest-defined : ((t : List ℕ) (order D : ℕ) (room : List ℕ) → Bytes t → compact t order D room .number ≡ 0 → (s : ℕ) → s < states t → image.default (result (compact t order D room)) s ≡ defaults t order D s)
     × ((t : List ℕ) (D : ℕ) → forest t 0 D ≡ levels (states t) D (weight t) (classes t - 1) singles)
 unfolding forest
 forest-defined = (compacted.compacted-defaults, λ t D. falling-levels (states t) D (weight t) (classes t - 1) singles)
 
--- In every order the forest is the one that is made by joining, of the pairs of the greatest weight, the best that can be added, as long as there is one: to drop a pair for good loses nothing.
+-- In the orders 0, 1 and 2 the forest is the one that is made by joining, of the pairs of the greatest weight, the best that can be added, as long as there is one: to drop a pair for good loses nothing.
 pub best-pair : (t : List ℕ) (order D : ℕ)
     → JoinsAll (states t) (rest order (states t)) D (weight t) (classes t - 1) singles (forest t order D)
     × ((G : Trees) → JoinsAll (states t) (rest order (states t)) D (weight t) (classes t - 1) singles G → forest t order D ≡ G)
@@ -85,9 +91,9 @@ best-pair t order D =
 pub distances-true : (t : List ℕ) (order D : ℕ) → TrueDistances (forest t order D)
 distances-true = trees.distances-true
 
--- Of what compact leaves the root of each tree, its state without a default, has the smallest d in the tree, of those the most neighbours, and of those the smallest number.
+-- Of what compact leaves in the orders 0, 1 and 2 the root of each tree, its state without a default, has the smallest d in the tree, of those the most neighbours, and of those the smallest number.
 -- A state's neighbours are the pairs added of which it is an end.
-pub root-chosen : ((t : List ℕ) (order D : ℕ) (room : List ℕ) → Bytes t → compact t order D room .number ≡ 0 → (r y : ℕ) → r < states t → y < states t
+pub root-chosen : ((t : List ℕ) (order D : ℕ) (room : List ℕ) → Bytes t → compact t order D room .number ≡ 0 → order ≤ 2 → (r y : ℕ) → r < states t → y < states t
     → image.default (result (compact t order D room)) r ≡ none → forest t order D .tree r ≡ forest t order D .tree y → GoesBefore (states t) (forest t order D) r y)
     × ((t : List ℕ) (order D x : ℕ) → neighbours (states t) (forest t order D) x ≡ pairsAt x (forest t order D .added))
 root-chosen = (compacted.compacted-root, around.neighbours-added)
@@ -134,33 +140,49 @@ worst-met b e = finds.stated-worst b (accepted-image b e)
 pub depth-met : (b : List ℕ) → judgeImage b ≡ 0 → LongestChain (imageView b) (image.depth b)
 depth-met b e = finds.stated-depth b (accepted-image b e)
 
--- With path bound D every chain of what compact leaves ends after at most D halved and rounded up, and so is the depth stated.
-pub half-of-bound : (t : List ℕ) (order D : ℕ) (room : List ℕ) → Bytes t → compact t order D room .number ≡ 0
+-- With path bound D every chain of what compact leaves in the orders 0, 1 and 2 ends after at most D halved and rounded up, and so is the depth stated.
+pub half-of-bound : (t : List ℕ) (order D : ℕ) (room : List ℕ) → Bytes t → compact t order D room .number ≡ 0 → order ≤ 2
     → ((s : ℕ) → s < states t → (l : ℕ) × Ends (imageView (result (compact t order D room))) s l × (l ≤ (D + 1) / 2))
     × (image.depth (result (compact t order D room)) ≤ (D + 1) / 2)
-half-of-bound t order D room B e = (compacted.compacted-chains t order D room B e, compacted.compacted-depth t order D room B e)
+half-of-bound t order D room B e few = (compacted.compacted-chains t order D room B e few, compacted.compacted-depth t order D room B e few)
 
--- In each tree of the forest the longest chain that compact leaves is the tree's longest path halved and rounded up: its root is a centre, and no state lies farther from a centre than that.
-pub tree-depth : (t : List ℕ) (order D : ℕ) (room : List ℕ) → Bytes t → compact t order D room .number ≡ 0 → (x : ℕ) → x < states t
+-- In the orders 0, 1 and 2 the longest chain that compact leaves in a tree of the forest is the tree's longest path halved and rounded up: its root is a centre, and no state lies farther from a centre than that.
+pub tree-depth : (t : List ℕ) (order D : ℕ) (room : List ℕ) → Bytes t → compact t order D room .number ≡ 0 → order ≤ 2 → (x : ℕ) → x < states t
     → let F = forest t order D in
     let v = imageView (result (compact t order D room)) in
     ((y l : ℕ) → y < states t → F .tree x ≡ F .tree y → Ends v y l → l ≤ (longest (states t) F x + 1) / 2)
     × ((y : ℕ) × (y < states t) × (F .tree x ≡ F .tree y) × Ends v y ((longest (states t) F x + 1) / 2))
-tree-depth t order D room B e x h = (λ y l. compacted.compacted-tree t order D room B e x y l h, compacted.compacted-tree-met t order D room B e x h)
+tree-depth t order D room B e few x h = (λ y l. compacted.compacted-tree t order D room B e few x y l h, compacted.compacted-tree-met t order D room B e few x h)
 
--- Of what compact leaves the entries stored, plus the defaults in the records, plus the weights of the pairs added, equal n times k.
-pub entries-sum : (t : List ℕ) (order D : ℕ) (room : List ℕ) → Bytes t → compact t order D room .number ≡ 0
+-- Of what compact leaves in the orders 0, 1 and 2 the entries stored, plus the defaults in the records, plus the weights of the pairs added, equal n times k.
+pub entries-sum : (t : List ℕ) (order D : ℕ) (room : List ℕ) → Bytes t → compact t order D room .number ≡ 0 → order ≤ 2
     → let b = result (compact t order D room) in
     image.entries b + (howMany (image.states b) (λ s. given (image.default b s)) + weightsOf (weight t) (forest t order D .added)) ≡ states t * classes t
 entries-sum = compacted.compacted-entries
 
--- D 0 gives no defaults.
-pub bound-zero : (t : List ℕ) (order : ℕ) (room : List ℕ) → Bytes t → compact t order 0 room .number ≡ 0 → (s : ℕ) → s < states t → image.default (result (compact t order 0 room)) s ≡ none
+-- D 0 gives no defaults in the orders 0, 1 and 2.
+pub bound-zero : (t : List ℕ) (order : ℕ) (room : List ℕ) → Bytes t → compact t order 0 room .number ≡ 0 → order ≤ 2
+    → (s : ℕ) → s < states t → image.default (result (compact t order 0 room)) s ≡ none
 bound-zero = compacted.compacted-zero
 
--- D at n - 1 or more binds nothing: with all such bounds compact answers and leaves the same.
-pub bound-free : (t : List ℕ) (order : ℕ) (room : List ℕ) (D D′ : ℕ) → states t ≤ D + 1 → states t ≤ D′ + 1 → compact t order D room ≡ compact t order D′ room
-bound-free = compacted.compacted-free
+-- D at n - 1 or more binds nothing in the orders 0, 1 and 2: with all such bounds compact answers and leaves the same. In order 3 it does with all bounds.
+pub bound-free : ((t : List ℕ) (order : ℕ) (room : List ℕ) (D D′ : ℕ) → order ≤ 2 → states t ≤ D + 1 → states t ≤ D′ + 1 → compact t order D room ≡ compact t order D′ room)
+    × ((t room : List ℕ) (D D′ : ℕ) → compact t 3 D room ≡ compact t 3 D′ room)
+bound-free = (compacted.compacted-free, compacted.compacted-ignores)
+
+-- A state's level, by which order 3 chooses, is the fewest bytes of a payload that leads to it from the start state, and it has none just where no payload leads to it.
+pub levels-true : (t : List ℕ) → judgeTable t ≡ 0 → (x : ℕ) → x < states t
+    → ((l : ℕ) → level t x ≡ some l ↔ HasLevel t x l) × (level t x ≡ none ↔ ((p : List ℕ) → ¬ LeadsTo t x p))
+levels-true t e = reached.levels-true t (accepted-table t e)
+
+-- Of what compact leaves in order 3 a scan from a state of level l answers no more hops than bytes taken and l, so from the start state no more than bytes taken: for every payload and room, wherever it stops.
+-- Where a byte was taken it answers fewer.
+pub toward-start-hops : (t : List ℕ) (D : ℕ) (room : List ℕ) → Bytes t → compact t 3 D room .number ≡ 0
+    → let b = result (compact t 3 D room) in
+    ((s l : ℕ) → HasLevel t s l → (payload reports : List ℕ) → Bytes payload → scan b s payload reports .number ≡ 0
+    → (scan b s payload reports .hops ≤ scan b s payload reports .taken + l) × (0 < scan b s payload reports .taken → scan b s payload reports .hops < scan b s payload reports .taken + l))
+    × ((payload reports : List ℕ) → Bytes payload → scan b (start t) payload reports .number ≡ 0 → scan b (start t) payload reports .hops ≤ scan b (start t) payload reports .taken)
+toward-start-hops t D room B e = (nearing.level-hops t D room B e, nearing.start-hops t D room B e)
 
 -- Of each operation any two outcomes that its promise allows are one: all its numbers, and every byte of its room.
 pub determined : ((t : List ℕ) (n n′ : ℕ) → JudgesTable t n → JudgesTable t n′ → n ≡ n′)

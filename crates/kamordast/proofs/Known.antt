@@ -12,7 +12,9 @@ use Rattle.paper.specs.View.{stored, depthOf, worstOf, viewGrounds}
 use Rattle.paper.specs.Image as image
 use Rattle.paper.specs.Image.{imageGrounds}
 use Rattle.paper.specs.Results.{labelBytes, recordBytes, entryBytes, front, trailer, parts, imageOfView, entriesOf, imageOf, tableFrom, tableOf}
-use Rattle.paper.specs.Forest.{weight, singles, endNear, joined, d, longest, joinedLongest, addedOrDropped, pairs, neighbours, isRoot, root, pointsTo, forest, defaults}
+use Rattle.paper.specs.Forest.{weight, singles, endNear, joined, d, longest, joinedLongest, addedOrDropped, pairs, neighbours, isRoot, root, pointsTo, forest, towardRoot}
+use Rattle.paper.specs.FallBack.{levels, towardStart}
+use Rattle.paper.specs.Defaults.{defaults}
 use Rattle.paper.specs.Scan.{scanOf}
 use Rattle.paper.specs.Operations.{judgeTable, judgeImage, Built, compacted, compactGrounds, compact, writeGrounds, write, expandGrounds, expand, scanGrounds, scan}
 use Rattle.paper.specs.Cases.{T, T2, three, aabbb, all16, room, Case, right, starred}
@@ -132,7 +134,7 @@ more =
 
 -- They are right, by computation.
 more-right : right more ≡ true
-unfolding number16 number32 bytes16 bytes32 _⊕_ checkWord labels next tableGrounds stored depthOf worstOf viewGrounds image.labels image.default image.count image.entryAt imageGrounds labelBytes recordBytes entryBytes front trailer parts imageOfView entriesOf imageOf tableFrom tableOf weight singles endNear joined d longest joinedLongest addedOrDropped pairs neighbours isRoot root pointsTo forest defaults scanOf judgeTable judgeImage compacted compactGrounds compact writeGrounds write expandGrounds expand scanGrounds scan
+unfolding number16 number32 bytes16 bytes32 _⊕_ checkWord labels next tableGrounds stored depthOf worstOf viewGrounds image.labels image.default image.count image.entryAt imageGrounds labelBytes recordBytes entryBytes front trailer parts imageOfView entriesOf imageOf tableFrom tableOf weight singles endNear joined d longest joinedLongest addedOrDropped pairs neighbours isRoot root pointsTo forest towardRoot levels towardStart defaults scanOf judgeTable judgeImage compacted compactGrounds compact writeGrounds write expandGrounds expand scanGrounds scan
 more-right = refl
 
 -- The image of T is accepted and can be expanded.

@@ -4,9 +4,8 @@ use mathlib.Core.List.{List}
 use mathlib.Core.Option.{Option}
 use Prim.Native.Nat.{ℕ}
 use Rattle.paper.specs.Words.{Bytes}
-use Rattle.paper.specs.Table as table
 use Rattle.paper.specs.Results.{imageOf, tableOf}
-use Rattle.paper.specs.Forest.{defaults}
+use Rattle.paper.specs.Defaults.{defaults}
 use Rattle.paper.specs.Operations.{result, judgeImage, listed, compact, write}
 use Rattle.paper.specs.Follows.{ScansLike}
 use Rattle.facts.proofs.ImageFacts.{accepted-image}

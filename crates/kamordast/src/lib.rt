@@ -51,7 +51,7 @@ pub extern "C" fn kamordast_compact(table: &[u8], bound: u16, room: &mut [u8]) -
     build::compact(table, 0, bound, room)
 }
 
-// Compacts a table with the forest in the order asked for: 0 by pairs, 1 BGS, 2 REF.
+// Compacts a table in the order asked for: 0 by pairs, 1 BGS, 2 REF, 3 toward the start.
 #[no_mangle]
 pub extern "C" fn kamordast_compact_in_order(
     table: &[u8],

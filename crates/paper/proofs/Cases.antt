@@ -11,7 +11,9 @@ use Rattle.paper.specs.View.{stored, depthOf, worstOf, viewGrounds}
 use Rattle.paper.specs.Image as image
 use Rattle.paper.specs.Image.{imageGrounds}
 use Rattle.paper.specs.Results.{labelBytes, recordBytes, entryBytes, front, trailer, parts, imageOfView, entriesOf, imageOf, tableOf}
-use Rattle.paper.specs.Forest.{weight, singles, endNear, joined, d, longest, joinedLongest, addedOrDropped, pairs, neighbours, isRoot, root, pointsTo, forest, defaults}
+use Rattle.paper.specs.Forest.{weight, singles, endNear, joined, d, longest, joinedLongest, addedOrDropped, pairs, neighbours, isRoot, root, pointsTo, forest, towardRoot}
+use Rattle.paper.specs.FallBack.{levels, towardStart}
+use Rattle.paper.specs.Defaults.{defaults}
 use Rattle.paper.specs.Scan.{scanOf}
 use Rattle.paper.specs.Operations.{judgeTable, judgeImage, compacted, compactGrounds, compact, writeGrounds, write, expandGrounds, expand, scanGrounds, scan}
 use Rattle.paper.specs.Cases.{built, same, Case, right, room, starred, requested, three}
@@ -19,12 +21,12 @@ use Rattle.paper.proofs.Below.{and-true}
 
 -- Every starred case is right, and the table of three states compacted with any D has 322 bytes and no defaults.
 pub cases : (right starred ≡ true) × ((D : ℕ) → built (compact three 0 D (room 322)) ≡ 0 ∷ 322 ∷ 6 ∷ 0 ∷ 0 ∷ 65535 ∷ 65535 ∷ 65535 ∷ [])
-unfolding number16 number32 bytes16 bytes32 _⊕_ checkWord labels next tableGrounds stored depthOf worstOf viewGrounds image.labels image.default image.count image.entryAt imageGrounds labelBytes recordBytes entryBytes front trailer parts imageOfView entriesOf imageOf tableOf weight singles endNear joined d longest joinedLongest addedOrDropped pairs neighbours isRoot root pointsTo forest defaults scanOf judgeTable judgeImage compacted compactGrounds compact writeGrounds write expandGrounds expand scanGrounds scan
+unfolding number16 number32 bytes16 bytes32 _⊕_ checkWord labels next tableGrounds stored depthOf worstOf viewGrounds image.labels image.default image.count image.entryAt imageGrounds labelBytes recordBytes entryBytes front trailer parts imageOfView entriesOf imageOf tableOf weight singles endNear joined d longest joinedLongest addedOrDropped pairs neighbours isRoot root pointsTo forest towardRoot levels towardStart defaults scanOf judgeTable judgeImage compacted compactGrounds compact writeGrounds write expandGrounds expand scanGrounds scan
 cases = (refl, λ D. refl)
 
 -- Every case of the requests is right.
 pub requests : right requested ≡ true
-unfolding number16 number32 bytes16 bytes32 _⊕_ checkWord labels next tableGrounds stored depthOf worstOf viewGrounds image.labels image.default image.count image.entryAt imageGrounds labelBytes recordBytes entryBytes front trailer parts imageOfView entriesOf imageOf tableOf weight singles endNear joined d longest joinedLongest addedOrDropped pairs neighbours isRoot root pointsTo forest defaults scanOf judgeTable judgeImage compacted compactGrounds compact writeGrounds write expandGrounds expand scanGrounds scan
+unfolding number16 number32 bytes16 bytes32 _⊕_ checkWord labels next tableGrounds stored depthOf worstOf viewGrounds image.labels image.default image.count image.entryAt imageGrounds labelBytes recordBytes entryBytes front trailer parts imageOfView entriesOf imageOf tableOf weight singles endNear joined d longest joinedLongest addedOrDropped pairs neighbours isRoot root pointsTo forest towardRoot levels towardStart defaults scanOf judgeTable judgeImage compacted compactGrounds compact writeGrounds write expandGrounds expand scanGrounds scan
 requests = refl
 
 -- Lists that are the same are equal.

@@ -49,7 +49,7 @@ compact-says : (t : List ℕ) (order D room : ℕ) → Says (compactGrounds t or
 unfolding compactGrounds compactSentences
 compact-says t order D room = (
   refl,
-  holds-less 2 order,
+  holds-less 3 order,
   λ _. says-append (tableGrounds t) _ (tableSentences t) _ (table-says t)
       (refl, holds-less room (length (compacted t order D)), λ _. tt),
 )

@@ -23,6 +23,8 @@ pub mod Bridge
 pub mod Paths
 pub mod Distances
 pub mod Levels
+pub mod Orders
+pub mod Walk
 pub mod Words
 pub mod Cases
 pub mod Twelve

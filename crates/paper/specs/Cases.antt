@@ -4,12 +4,14 @@ use mathlib.Core.List.{List, [], _∷_, _++_, map}
 use Prim.Native.Nat.{ℕ}
 use lib.Dec.{eqb}
 use lib.ListN.{length, replicate, take}
-use Rattle.paper.specs.Below.{sum, list}
+use Rattle.paper.specs.Below.{sum, list, or}
 use Rattle.paper.specs.Words.{bytes16, bytes32, checkWord}
+use Rattle.paper.specs.Table.{states}
 use Rattle.paper.specs.Image as image
 use Rattle.paper.specs.Image.{entries, depth, worst}
 use Rattle.paper.specs.Results.{defaultNumber, imageOf}
 use Rattle.paper.specs.Forest.{Trees, weight, singles, joined, root, lean, forest}
+use Rattle.paper.specs.FallBack.{level}
 use Rattle.paper.specs.Operations.{judgeTable, Built, compacted, compact, listed, write, Scanned, scan}
 
 -- Numbers of 16 bits, one after the other.
@@ -101,6 +103,18 @@ five =
     ++ all16 (0 ∷ 0 ∷ 0 ∷ 0 ∷ 0 ∷ 0 ∷ []) ++ all16 (0 ∷ 0 ∷ 0 ∷ 1 ∷ 1 ∷ 1 ∷ []) ++ all16 (0 ∷ 0 ∷ 2 ∷ 1 ∷ 2 ∷ 2 ∷ [])
     ++ all16 (0 ∷ 0 ∷ 3 ∷ 3 ∷ 2 ∷ 3 ∷ []) ++ all16 (0 ∷ 0 ∷ 4 ∷ 4 ∷ 4 ∷ 2 ∷ [])
 
+-- A table of seven states on which order 3 shows its rules: 1 falls to 0; 2 shares one class with 0 and has no default; 3 falls to 1, with which it shares more than with 0; 4 shares two classes with 0 and with 1,
+-- 5 these and all with 4, whose level is its own, and both fall to 0; 6 is not reached and has none, though its row is the start state's.
+abbrev pub seven : List ℕ
+seven =
+    all16 (7 ∷ 3 ∷ 0 ∷ []) ++ classesOf 1 2 ++ replicate 14 0
+    ++ all16 (1 ∷ 2 ∷ 0 ∷ []) ++ all16 (3 ∷ 2 ∷ 0 ∷ []) ++ all16 (1 ∷ 4 ∷ 5 ∷ []) ++ all16 (3 ∷ 2 ∷ 0 ∷ [])
+    ++ all16 (5 ∷ 2 ∷ 0 ∷ []) ++ all16 (5 ∷ 2 ∷ 0 ∷ []) ++ all16 (1 ∷ 2 ∷ 0 ∷ [])
+
+-- The level of each state of a table, 65535 for none.
+abbrev pub levelled : List ℕ → List ℕ
+levelled t = list (states t) (λ x. or (level t x) 65535)
+
 -- The starred cases in the paper's order; 65535 is no default, and a room is 255 where it is not written.
 abbrev pub starred : List Case
 starred =
@@ -126,10 +140,16 @@ requested =
     (shown (forest eight 1 2 .added), 0 ∷ 1 ∷ 2 ∷ 3 ∷ 4 ∷ 5 ∷ 6 ∷ 7 ∷ [])
     ∷ (built (compact eight 1 2 (room 376)), 0 ∷ 376 ∷ 12 ∷ 1 ∷ 1 ∷ 65535 ∷ 0 ∷ 65535 ∷ 2 ∷ 65535 ∷ 4 ∷ 65535 ∷ 6 ∷ [])
     ∷ (built (compact eight 2 2 (room 340)), 0 ∷ 340 ∷ 3 ∷ 1 ∷ 1 ∷ 65535 ∷ 0 ∷ 0 ∷ 0 ∷ 0 ∷ 0 ∷ 0 ∷ 0 ∷ [])
-    ∷ (compact [] 3 2 [] .number ∷ [], 18 ∷ [])
+    ∷ (compact [] 4 2 [] .number ∷ compact [] 3 2 [] .number ∷ [], 18 ∷ 1 ∷ [])
     ∷ (map checkWord ((32768 ∷ 32768 ∷ []) ∷ (1 ∷ 65534 ∷ []) ∷ (65535 ∷ 65535 ∷ 65535 ∷ []) ∷ (65535 ∷ 2 ∷ 65535 ∷ []) ∷ []), 65534 ∷ 0 ∷ 0 ∷ 65533 ∷ [])
     ∷ (map (root 5 (lean 5) tree5) (0 ∷ 1 ∷ 2 ∷ 3 ∷ 4 ∷ []), 2 ∷ 2 ∷ 2 ∷ 2 ∷ 2 ∷ [])
     ∷ (map (λ r. sum 5 (λ x. tree5 .distance x r)) (1 ∷ 2 ∷ []), 6 ∷ 5 ∷ [])
     ∷ (shown (forest five 0 3 .added), 0 ∷ 1 ∷ 1 ∷ 2 ∷ 2 ∷ 3 ∷ 2 ∷ 4 ∷ [])
     ∷ (built (compact five 0 3 (room 382)), 0 ∷ 382 ∷ 18 ∷ 2 ∷ 2 ∷ 1 ∷ 2 ∷ 65535 ∷ 2 ∷ 2 ∷ [])
+    ∷ (levelled T, 0 ∷ 1 ∷ 2 ∷ 3 ∷ [])
+    ∷ (built (compact T 3 0 (room 324)), 0 ∷ 324 ∷ 5 ∷ 1 ∷ 1 ∷ 65535 ∷ 0 ∷ 0 ∷ 0 ∷ [])
+    ∷ (levelled eight, 0 ∷ replicate 7 65535)
+    ∷ (built (compact eight 3 0 (room 424)), 0 ∷ 424 ∷ 24 ∷ 0 ∷ 0 ∷ 65535 ∷ 65535 ∷ 65535 ∷ 65535 ∷ 65535 ∷ 65535 ∷ 65535 ∷ 65535 ∷ [])
+    ∷ (levelled seven, 0 ∷ 1 ∷ 1 ∷ 2 ∷ 2 ∷ 2 ∷ 65535 ∷ [])
+    ∷ (built (compact seven 3 0 (room 370)), 0 ∷ 370 ∷ 12 ∷ 2 ∷ 2 ∷ 65535 ∷ 0 ∷ 65535 ∷ 1 ∷ 0 ∷ 0 ∷ 65535 ∷ [])
     ∷ []

@@ -1,4 +1,4 @@
--- The forest: pairs of states by falling weight, the trees that they join, each tree's root, and the defaults.
+-- The forest: pairs of states by falling weight, the trees that they join, each tree's root, and the defaults toward it.
 use mathlib.Core.Bool.{Bool, true, cond, _&&_, _||_}
 use mathlib.Core.List.{List, [], _∷_}
 use mathlib.Core.Option.{Option}
@@ -6,11 +6,11 @@ use Prim.Native.Nat.{ℕ, zero, suc, _+_, _-_, max}
 use lib.Dec.{ltb, leb, eqb}
 use lib.ListN.{length}
 use Rattle.paper.specs.Below.{every, howMany, largest, differ, each, firstOf, when, or}
-use Rattle.paper.specs.Table.{states, classes, next}
+use Rattle.paper.specs.Table.{states, classes, shared}
 
 -- The weight of a pair of states: the number of classes with equal next states, less one.
 unfoldable pub weight : List ℕ → ℕ → ℕ → ℕ
-weight t u v = howMany (classes t) (λ c. eqb (next t u c) (next t v c)) - 1
+weight t u v = shared t u v - 1
 
 -- A forest: the number of each state's tree, the distance of two states of one tree (of two trees it means nothing), and the pairs added.
 pub record Trees : Type 0 where
@@ -137,10 +137,10 @@ neighbours n F x = howMany n (λ y. eqb (F .tree x) (F .tree y) && eqb (F .dista
 abbrev pub lean : ℕ → Trees → ℕ → ℕ
 lean n F x = n - neighbours n F x
 
--- The forest of a table in an order with path bound D; no weight is above k - 1.
+-- The forest of a table in one of the orders 0, 1 and 2 with path bound D; no weight is above k - 1.
 unfoldable pub forest : List ℕ → ℕ → ℕ → Trees
 forest t order D = falling (states t) (rest order (states t)) D (weight t) (classes t - 1) singles
 
--- The default of each state of a table in an order with path bound D.
-unfoldable pub defaults : List ℕ → ℕ → ℕ → ℕ → Option ℕ
-defaults t order D = pointsTo (states t) (lean (states t)) (forest t order D)
+-- The default of each state in these orders: toward the root of its tree.
+unfoldable pub towardRoot : List ℕ → ℕ → ℕ → ℕ → Option ℕ
+towardRoot t order D = pointsTo (states t) (lean (states t)) (forest t order D)

@@ -10,8 +10,11 @@ pub mod Levels
 pub mod BestPair
 pub mod Paths
 pub mod Roots
+pub mod FallBack
+pub mod Defaults
 pub mod Scan
 pub mod Walk
+pub mod Reached
 pub mod Operations
 pub mod Promises
 pub mod Sentences

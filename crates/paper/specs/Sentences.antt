@@ -123,9 +123,9 @@ imageSentences b =
     ∷ (7, ClassesWrong k (image.classOf b))
     ∷ viewSentences (imageView b) (image.classOf b) m (image.depth b) (image.worst b)
 
--- Compact: 18 (an order above 2), the table's, 16.
+-- Compact: 18 (an order above 3), the table's, 16.
 unfoldable pub compactSentences : List ℕ → ℕ → ℕ → ℕ → List Sentence
-compactSentences t order D room = (18, 2 < order) ∷ (tableSentences t ++ ((16, room < length (compacted t order D)) ∷ []))
+compactSentences t order D room = (18, 3 < order) ∷ (tableSentences t ++ ((16, room < length (compacted t order D)) ∷ []))
 
 -- Write: the table's, 8 (list length and values only), 11, 16.
 unfoldable pub writeSentences : List ℕ → List ℕ → ℕ → List Sentence

@@ -10,7 +10,9 @@ use Rattle.paper.specs.View.{stored, depthOf, worstOf, viewGrounds}
 use Rattle.paper.specs.Image as image
 use Rattle.paper.specs.Image.{imageGrounds}
 use Rattle.paper.specs.Results.{labelBytes, recordBytes, entryBytes, front, trailer, parts, imageOfView, entriesOf, imageOf, tableFrom, tableOf}
-use Rattle.paper.specs.Forest.{weight, singles, endNear, joined, d, longest, joinedLongest, addedOrDropped, pairs, neighbours, isRoot, root, pointsTo, forest, defaults}
+use Rattle.paper.specs.Forest.{weight, singles, endNear, joined, d, longest, joinedLongest, addedOrDropped, pairs, neighbours, isRoot, root, pointsTo, forest, towardRoot}
+use Rattle.paper.specs.FallBack.{levels, towardStart}
+use Rattle.paper.specs.Defaults.{defaults}
 use Rattle.paper.specs.Scan.{scanOf}
 use Rattle.paper.specs.Operations.{judgeTable, judgeImage, compacted, Built, compactGrounds, compact, writeGrounds, write, expandGrounds, expand, Scanned, scanGrounds, scan}
 use Rattle.paper.specs.Cases.{all16, same, scanned}
@@ -101,7 +103,7 @@ module _ (t : List ℕ) (images : List (List ℕ)) where
 
   -- The definitions compute what the independent implementation answered and wrote.
   unfoldable pub agrees : Case → Bool
-  unfolding number16 number32 bytes16 bytes32 _⊕_ checkWord labels next tableGrounds stored depthOf worstOf viewGrounds image.labels image.default image.count image.entryAt imageGrounds labelBytes recordBytes entryBytes front trailer parts imageOfView entriesOf imageOf tableFrom tableOf weight singles endNear joined d longest joinedLongest addedOrDropped pairs neighbours isRoot root pointsTo forest defaults scanOf judgeTable judgeImage compacted compactGrounds compact writeGrounds write expandGrounds expand scanGrounds scan
+  unfolding number16 number32 bytes16 bytes32 _⊕_ checkWord labels next tableGrounds stored depthOf worstOf viewGrounds image.labels image.default image.count image.entryAt imageGrounds labelBytes recordBytes entryBytes front trailer parts imageOfView entriesOf imageOf tableFrom tableOf weight singles endNear joined d longest joinedLongest addedOrDropped pairs neighbours isRoot root pointsTo forest towardRoot levels towardStart defaults scanOf judgeTable judgeImage compacted compactGrounds compact writeGrounds write expandGrounds expand scanGrounds scan
   agrees (compacts order D r ns w) = builds (compact t order D (room r)) ns (after w r)
   agrees (writes ds n r ns w) = builds (write t (take n (all16 ds)) (room r)) ns (after w r)
   agrees (judges i l n) = eqb (judgeImage (lentBytes l (getD images i []))) n

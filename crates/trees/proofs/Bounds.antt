@@ -12,7 +12,7 @@ use borrow.Author.Tests.{lt-leb, le-leb, eq-eqb}
 use Rattle.paper.specs.Below.{differ}
 use Rattle.paper.specs.Paths.{Among}
 use Rattle.paper.specs.Table.{states, classes}
-use Rattle.paper.specs.Forest.{Trees, weight, singles, joined, joinedLongest, addedOrDropped, pairs, nextPair, without, taken, falling, rest, lean, root, nearer, pointsTo, forest, defaults}
+use Rattle.paper.specs.Forest.{Trees, weight, singles, joined, joinedLongest, addedOrDropped, pairs, nextPair, without, taken, falling, rest, lean, root, nearer, pointsTo, forest, towardRoot}
 use Rattle.paper.specs.BestPair.{Weighs}
 use Rattle.paper.proofs.Below.{and-true, firstOf-none}
 use Rattle.paper.proofs.Tests.{holds-differ}
@@ -50,8 +50,8 @@ unfolding singles
 singles-alone n lean r x y = and-false (eqb x y) _ refl
 
 -- So the bound 0 gives no defaults.
-pub bound-zero : (t : List ℕ) (order s : ℕ) → defaults t order 0 s ≡ none
-unfolding defaults forest pointsTo
+pub bound-zero : (t : List ℕ) (order s : ℕ) → towardRoot t order 0 s ≡ none
+unfolding towardRoot forest pointsTo
 bound-zero t order s =
     let n = states t in
     ap (λ (F : Trees). pointsTo n (lean n) F s) (falling-zero n (rest order n) (weight t) (classes t - 1) singles)
@@ -101,8 +101,8 @@ module _ (n D D′ : ℕ) (large : n ≤ D + 1) (large′ : n ≤ D′ + 1) wher
         ap (λ (G : Trees). falling n rest D weight w G) e ∙ falling-free w (taken n rest D′ (length ps) F ps) T
 
 -- So a bound of n - 1 or more binds nothing: every such bound gives the same defaults.
-pub bound-free : (t : List ℕ) (order D D′ : ℕ) → states t ≤ D + 1 → states t ≤ D′ + 1 → defaults t order D ≡ defaults t order D′
-unfolding defaults forest
+pub bound-free : (t : List ℕ) (order D D′ : ℕ) → states t ≤ D + 1 → states t ≤ D′ + 1 → towardRoot t order D ≡ towardRoot t order D′
+unfolding towardRoot forest
 bound-free t order D D′ large large′ =
     let n = states t in
     ap (λ (F : Trees). pointsTo n (lean n) F) (falling-free n D D′ large large′ (rest order n) (weight t) (classes t - 1) singles (singles-sized n))

@@ -7,7 +7,7 @@ use native.Mathlib.Omega.{arith}
 use Rattle.paper.specs.Table.{states}
 use Rattle.paper.specs.View.{View, chain, depthOf}
 use Rattle.paper.specs.Results.{tableView}
-use Rattle.paper.specs.Forest.{longest, root, lean, forest, defaults}
+use Rattle.paper.specs.Forest.{longest, root, lean, forest, towardRoot}
 use Rattle.paper.specs.Sentences.{Ends}
 use Rattle.paper.proofs.Below.{largest-least}
 use Rattle.paper.proofs.Chain.{chain-ends}
@@ -19,14 +19,14 @@ use Rattle.trees.proofs.Radius.{root-distance}
 use Rattle.trees.proofs.Depth.{chain-distance, chain-attained}
 
 -- A default is a state below n.
-pub defaults-below : (t : List ℕ) (order D s d : ℕ) → defaults t order D s ≡ some d → d < states t
-unfolding defaults
+pub defaults-below : (t : List ℕ) (order D s d : ℕ) → towardRoot t order D s ≡ some d → d < states t
+unfolding towardRoot
 defaults-below t order D s d e = pointsTo-some (states t) (lean (states t)) (forest t order D) s d e .0
 
-module _ (t : List ℕ) (order D : ℕ) (v : View) (same : (s : ℕ) → s < states t → v .default s ≡ defaults t order D s) where
+module _ (t : List ℕ) (order D : ℕ) (v : View) (same : (s : ℕ) → s < states t → v .default s ≡ towardRoot t order D s) where
   -- Over a table with path bound D the chain of every state ends, and its steps are at most D halved and rounded up.
   pub defaults-chain : (s : ℕ) → s < states t → (steps : ℕ) × (chain v (states t) s ≡ some steps) × (steps ≤ (D + 1) / 2)
-  unfolding defaults
+  unfolding towardRoot
   defaults-chain s l =
       let n = states t in
       let F = forest t order D in
@@ -38,7 +38,7 @@ module _ (t : List ℕ) (order D : ℕ) (v : View) (same : (s : ℕ) → s < sta
 
   -- In a tree no chain is longer than its longest path halved and rounded up: the centre's d is just that, and no state of the tree is farther from it.
   pub tree-chains : (x y l : ℕ) → x < states t → y < states t → forest t order D .tree x ≡ forest t order D .tree y → Ends v y l → l ≤ (longest (states t) (forest t order D) x + 1) / 2
-  unfolding defaults
+  unfolding towardRoot
   tree-chains x y l xb yb m E =
       let n = states t in
       let F = forest t order D in
@@ -53,7 +53,7 @@ module _ (t : List ℕ) (order D : ℕ) (v : View) (same : (s : ℕ) → s < sta
   -- One is so long.
   pub tree-chain-met : (x : ℕ) → x < states t
       → (y : ℕ) × (y < states t) × (forest t order D .tree x ≡ forest t order D .tree y) × Ends v y ((longest (states t) (forest t order D) x + 1) / 2)
-  unfolding defaults
+  unfolding towardRoot
   tree-chain-met x xb =
       let n = states t in
       let F = forest t order D in
@@ -62,9 +62,9 @@ module _ (t : List ℕ) (order D : ℕ) (v : View) (same : (s : ℕ) → s < sta
       (y, yb, m, chain-ends v n y _ e)
 
 -- So the depth built never exceeds D halved and rounded up.
-pub defaults-depth : (t : List ℕ) (order D : ℕ) → depthOf (tableView t (defaults t order D)) ≤ (D + 1) / 2
+pub defaults-depth : (t : List ℕ) (order D : ℕ) → depthOf (tableView t (towardRoot t order D)) ≤ (D + 1) / 2
 unfolding depthOf
 defaults-depth t order D =
     largest-least (states t) _ _ (λ s l.
-    let (steps, e, h) = defaults-chain t order D (tableView t (defaults t order D)) (λ x k. refl) s l in
+    let (steps, e, h) = defaults-chain t order D (tableView t (towardRoot t order D)) (λ x k. refl) s l in
     rw e h)

@@ -13,7 +13,7 @@ use borrow.Author.Tests.{eq-eqb, ne-eqb}
 use Rattle.paper.specs.Below.{sum, howMany, bit, given}
 use Rattle.paper.specs.Table.{states, classes, next}
 use Rattle.paper.specs.Results.{differs, entriesOf}
-use Rattle.paper.specs.Forest.{Trees, weight, singles, joined, weightsOf, lean, forest, defaults}
+use Rattle.paper.specs.Forest.{Trees, weight, singles, joined, weightsOf, lean, forest, towardRoot}
 use Rattle.paper.proofs.Sums.{sum-same, sum-add, sum-constant}
 use Rattle.paper.proofs.Counts.{count-same, count-both, count-all, length-passed}
 use Rattle.trees.proofs.Points.{pointsTo-some}
@@ -83,40 +83,40 @@ module _ (t : List ℕ) where
     forest-weighed = forest-keeps t order D Weighed added-weighed singles-weighed
 
     -- The weights of the states with their defaults are those of the pairs added.
-    falls-added : fallSum (states t) (weight t) (defaults t order D) ≡ weightsOf (weight t) (forest t order D .added)
-    unfolding defaults
+    falls-added : fallSum (states t) (weight t) (towardRoot t order D) ≡ weightsOf (weight t) (forest t order D .added)
+    unfolding towardRoot
     falls-added =
         let W = forest-weighed in
         let n = states t in
         omega (arith, W .twice, around-falls n (weight t) weight-turned (lean n) (forest t order D) (W .grown .metric) (W .grown .inside))
 
     -- A default shares classes with its state, so there is a weight.
-    default-heavy : (s d : ℕ) → defaults t order D s ≡ some d → 1 ≤ weight t s d
-    unfolding defaults
+    default-heavy : (s d : ℕ) → towardRoot t order D s ≡ some d → 1 ≤ weight t s d
+    unfolding towardRoot
     default-heavy s d e =
         let (_, N) = pointsTo-some (states t) (lean (states t)) (forest t order D) s d e in
         forest-weighed .heavy s d (N .mate, N .step)
 
     -- The classes in which two states differ, one, and their weight, make k.
-    differ-sum : (s d : ℕ) → 1 ≤ weight t s d → howMany (classes t) (λ c. differs t (defaults t order D) s c (some d)) + (1 + weight t s d) ≡ classes t
+    differ-sum : (s d : ℕ) → 1 ≤ weight t s d → howMany (classes t) (λ c. differs t (towardRoot t order D) s c (some d)) + (1 + weight t s d) ≡ classes t
     unfolding weight
     differ-sum s d h = omega (arith, h, count-both (classes t) (λ c. eqb (next t s c) (next t d c)))
 
     -- What a state stores, whether it has a default, and the weight of the two make k.
-    state-sum : (s : ℕ) → length (entriesOf t (defaults t order D) s) + (bit (given (defaults t order D s)) + defaultValue (defaults t order D s) (weight t s)) ≡ classes t
+    state-sum : (s : ℕ) → length (entriesOf t (towardRoot t order D) s) + (bit (given (towardRoot t order D s)) + defaultValue (towardRoot t order D s) (weight t s)) ≡ classes t
     unfolding entriesOf
-    state-sum s = ap (λ (l : ℕ). l + (bit (given (defaults t order D s)) + defaultValue (defaults t order D s) (weight t s))) (length-passed (classes t) (λ c. differs t (defaults t order D) s c (defaults t order D s)) (λ c. (c, next t s c))) ∙ go (defaults t order D s) refl
+    state-sum s = ap (λ (l : ℕ). l + (bit (given (towardRoot t order D s)) + defaultValue (towardRoot t order D s) (weight t s))) (length-passed (classes t) (λ c. differs t (towardRoot t order D) s c (towardRoot t order D s)) (λ c. (c, next t s c))) ∙ go (towardRoot t order D s) refl
       where
-        go : (o : Option ℕ) → defaults t order D s ≡ o → howMany (classes t) (λ c. differs t (defaults t order D) s c o) + (bit (given o) + defaultValue o (weight t s)) ≡ classes t
+        go : (o : Option ℕ) → towardRoot t order D s ≡ o → howMany (classes t) (λ c. differs t (towardRoot t order D) s c o) + (bit (given o) + defaultValue o (weight t s)) ≡ classes t
         go none q = omega (arith, count-all (classes t) (λ c. true) (λ c h. refl))
         go (some d) q = differ-sum s d (default-heavy s d q)
 
 -- Stored entries, plus defaults, plus the weights of the pairs added, equal n times k.
 pub entries-sum : (t : List ℕ) (order D : ℕ)
-    → sum (states t) (λ s. length (entriesOf t (defaults t order D) s)) + (howMany (states t) (λ s. given (defaults t order D s)) + weightsOf (weight t) (forest t order D .added)) ≡ states t * classes t
+    → sum (states t) (λ s. length (entriesOf t (towardRoot t order D) s)) + (howMany (states t) (λ s. given (towardRoot t order D s)) + weightsOf (weight t) (forest t order D .added)) ≡ states t * classes t
 entries-sum t order D =
     let n = states t in
-    let f = defaults t order D in
+    let f = towardRoot t order D in
     let stored : ℕ → ℕ = λ s. length (entriesOf t f s) in
     let used : ℕ → ℕ = λ s. bit (given (f s)) in
     let shared : ℕ → ℕ = λ s. defaultValue (f s) (weight t s) in

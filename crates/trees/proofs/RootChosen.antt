@@ -6,7 +6,7 @@ use Prim.Native.Nat.{ℕ, _-_, _<_}
 use native.Mathlib.Omega.{arith}
 use native.Mathlib.Decide.{ℕ-discrete}
 use Rattle.paper.specs.Table.{states}
-use Rattle.paper.specs.Forest.{Trees, lean, root, forest, defaults}
+use Rattle.paper.specs.Forest.{Trees, lean, root, forest, towardRoot}
 use Rattle.paper.specs.Roots.{GoesBefore}
 use Rattle.paper.proofs.Join.{Mates}
 use Rattle.trees.proofs.Grown.{forest-grown}
@@ -33,9 +33,9 @@ root-chosen n F x xb =
     )
 
 -- In the forest of a table a state without a default is the root of its tree.
-pub no-default-root : (t : List ℕ) (order D r : ℕ) → r < states t → defaults t order D r ≡ none
+pub no-default-root : (t : List ℕ) (order D r : ℕ) → r < states t → towardRoot t order D r ≡ none
     → r ≡ root (states t) (lean (states t)) (forest t order D) r
-unfolding defaults
+unfolding towardRoot
 no-default-root t order D r rb e =
     let n = states t in
     let F = forest t order D in
@@ -49,7 +49,7 @@ no-default-root t order D r rb e =
     ]
 
 -- So it goes before every state of its tree.
-pub no-default-chosen : (t : List ℕ) (order D r y : ℕ) → r < states t → y < states t → defaults t order D r ≡ none
+pub no-default-chosen : (t : List ℕ) (order D r y : ℕ) → r < states t → y < states t → towardRoot t order D r ≡ none
     → Mates (forest t order D) r y → GoesBefore (states t) (forest t order D) r y
 no-default-chosen t order D r y rb yb e m =
     rw (← no-default-root t order D r rb e) at (root-chosen (states t) (forest t order D) r rb .2 y yb m)

@@ -14,13 +14,13 @@ use Rattle.paper.specs.Table.{tableGrounds}
 use Rattle.paper.specs.View.{endless, defaultBad, viewGrounds}
 use Rattle.paper.specs.Image.{imageGrounds}
 use Rattle.paper.specs.Results.{tableView, imageOf, tableOf}
-use Rattle.paper.specs.Forest.{defaults}
+use Rattle.paper.specs.Defaults.{defaults}
 use Rattle.paper.specs.Operations.{judgeTable, judgeImage, building, listed, compacted, compactGrounds, writeGrounds, write, expandGrounds, expand}
 use Rattle.paper.proofs.Below.{any-none}
 use Rattle.paper.proofs.Refusals.{Clear, accepted, cleared}
 use Rattle.paper.proofs.Tests.{or-both, or-neither, same-differ}
 use Rattle.trips.proofs.Writable.{Writable, writable}
-use Rattle.trips.proofs.ForestWritable.{forest-writable}
+use Rattle.trips.proofs.DefaultsWritable.{defaults-writable}
 use Rattle.trips.proofs.Building.{first-both, first-neither}
 
 -- Expand accepts an accepted image with room for its table.
@@ -73,10 +73,10 @@ write-accepts t ds room W e h =
     below s hs none q = refl
     below s hs (some d) q = lt-leb n d (W .inside s d hs q)
 
--- What compact accepts can be written with the forest's defaults.
+-- What compact accepts can be written with the defaults of its order.
 pub compact-writable : (t : List ℕ) (order D room : ℕ) → first (compactGrounds t order D room) ≡ 0 → Writable t (defaults t order D)
 unfolding compactGrounds tableGrounds judgeTable
 compact-writable t order D room e =
-    let known : List Ground = (18, ltb 2 order) ∷ [] in
+    let known : List Ground = (18, ltb 3 order) ∷ [] in
     let own : List Ground = (16, ltb room (length (compacted t order D))) ∷ [] in
-    forest-writable t order D (first-both (tableGrounds t) own refl (first-both known (tableGrounds t ++ own) refl e .1) .0)
+    defaults-writable t (first-both (tableGrounds t) own refl (first-both known (tableGrounds t ++ own) refl e .1) .0) order D

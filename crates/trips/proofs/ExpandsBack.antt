@@ -7,7 +7,7 @@ use lib.ListN.{length, take}
 use Rattle.paper.specs.Words.{Bytes}
 use Rattle.paper.specs.Refusals.{first}
 use Rattle.paper.specs.Results.{imageOf}
-use Rattle.paper.specs.Forest.{defaults}
+use Rattle.paper.specs.Defaults.{defaults}
 use Rattle.paper.specs.Operations.{result, building, listed, compacted, compactGrounds, compact, writeGrounds, write, expand}
 use Rattle.paper.specs.Promises.{IsBuilt, Compacts, Writes, Expands}
 use Rattle.trips.proofs.Writable.{Writable}
@@ -29,7 +29,7 @@ write-leaves t ds room e =
     let (z, w) = built-result (first (writeGrounds t ds (length room))) (imageOf t (listed ds)) room e in
     (w, write-writable t ds (length room) z)
 
--- What compact leaves is the image of the table with the forest's defaults, which can be written.
+-- What compact leaves is the image of the table with the defaults of its order, which can be written.
 pub compact-leaves : (t : List ℕ) (order D : ℕ) (room : List ℕ) → compact t order D room .number ≡ 0
     → (result (compact t order D room) ≡ imageOf t (defaults t order D)) × Writable t (defaults t order D)
 unfolding compact compacted

@@ -16,7 +16,7 @@ pub mod ImageOf
 pub mod TableOf
 pub mod Lengths
 pub mod ResultBytes
-pub mod ForestWritable
+pub mod DefaultsWritable
 pub mod Building
 pub mod Accepts
 pub mod ExpandsBack

@@ -1,4 +1,4 @@
--- Each ground in its order: 18, the table's, 16; past them the image of the forest's defaults.
+-- Each ground in its order: 18, the table's, 16; past them the image of the defaults of the order.
 use mathlib.Core.Path.{_≡_, sym, _∙_}
 use Prim.Native.Nat.{_≤_}
 use mathlib.Core.Bool.{false}
@@ -17,7 +17,7 @@ abbrev begun : tie.After-judge-table → tie.Start
 begun c = c .before .before .before .before
 
 -- Past ground 18 the order is known.
-known : (c : tie.After-judge-table) → begun c .args .order ≤ 2
+known : (c : tie.After-judge-table) → begun c .args .order ≤ 3
 known c = c .before .if1 .left
 
 -- Past the table's grounds the table is accepted.
@@ -65,7 +65,7 @@ defaults-of-requires c κs =
     let d = c .before .before in
     (accepted-table (now (begun (d .before) .args .table)) (accepted d), c .before .get16 .ensures, c .get162 .ensures)
 
--- The forest's defaults are in range.
+-- The defaults are in range.
 range : (c : tie.After-defaults-of) → InRange (c .before .before .get16 .result) (c .defaults-of .result)
 range c =
     let a = begun (c .before .before .before .before) .args in
@@ -77,7 +77,7 @@ ends c =
     let chosen = c .before .before in
     let read = chosen .before .before in
     let a = begun (read .before .before) .args in
-    c .order-of .ensures .0 ∙ chosen-ends (now (a .table)) (a .order) (a .bound) (read .get16 .result) (chosen .defaults-of .result) (read .get16 .ensures) (chosen .defaults-of .ensures)
+    c .order-of .ensures .0 ∙ chosen-ends (now (a .table)) (a .order) (a .bound) (read .get16 .result) (chosen .defaults-of .result) (read .get16 .ensures) (chosen .defaults-of .ensures) (accepted (read .before))
 
 order-of-requires : tie.Need-order-of-requires
 order-of-requires c κs =

@@ -4,7 +4,7 @@ use mathlib.Core.Path.{_≡_}
 use native.Mathlib.Omega.{arith}
 use borrow.Author.Needs.{needs}
 use lib.ListN.{length, length-set}
-use Rattle.forest.specs.Weighed.{Own}
+use Rattle.forest.specs.Single.{Own}
 use Rattle.forest.proofs.Single.{own-more}
 use Rattle.forest.proofs.own_numbers.Statement.{statement}
 use Rattle.forest.proofs.own_numbers.Tie as tie

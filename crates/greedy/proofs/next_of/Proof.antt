@@ -2,7 +2,7 @@
 use Prim.Native.Nat.{_≤_, _-_}
 use native.Mathlib.Omega.{arith}
 use denote.Ref.{now}
-use Rattle.greedy.specs.Good.{weightIn}
+use Rattle.weights.specs.Weighed.{weightIn}
 use Rattle.greedy.proofs.Weights.{Passed, passed-more}
 use Rattle.greedy.proofs.next_of.Statement.{statement}
 use Rattle.greedy.proofs.next_of.Tie as tie

@@ -1,15 +1,13 @@
 -- The invariant of the loop: the weights above `at` are taken.
 use mathlib.Core.Path.{sym, subst}
 use mathlib.Core.Logic.{⊎-elim}
-use Prim.Native.Nat.{_*_, _≤_, _-_}
+use Prim.Native.Nat.{_≤_, _-_}
 use native.Mathlib.Omega.{arith}
 use borrow.Author.Needs.{needs}
 use denote.Ref.{now}
-use lib.ListN.{getD}
 use Rattle.paper.specs.Forest.{rest}
 use Rattle.joining.specs.declared.Forest.{Forest}
-use Rattle.greedy.specs.Good.{weightIn}
-use Rattle.greedy.proofs.Weights.{named-own}
+use Rattle.weights.specs.Weighed.{weightIn}
 use Rattle.greedy.proofs.Absent.{unseen-absent, becomes-absent}
 use Rattle.greedy.proofs.Falls.{Falls, falls-start, falls-more, falls-end}
 use Rattle.greedy.proofs.take_all.Statement.{statement}
@@ -69,10 +67,10 @@ loop-again c =
       omega arith,
       ⊎-elim
           (λ w. subst held (sym (w .2)) (more (w .1 .result .d) (w .1 .result .parent) (w .1 .result .tree)
-          (rw (named-own (seen .result) (λ j. getD (now (a .weights)) j 0) (a .n * 512) at (omega arith) (seen .ensures) (w .0 .taken)) at (w .1 .ensures))))
+          (rw (seen .ensures .own at (omega arith) (w .0 .taken)) at (w .1 .ensures))))
           (λ w. subst held (sym (w .1)) (more (f .d) (f .parent) (f .tree)
           (becomes-absent (a .n) (rest (a .order) (a .n)) (a .bound) (weightIn (now (a .weights))) at
-          (unseen-absent (seen .result) (now (a .weights)) (a .n) at (s .pre .0) (omega arith) some (seen .ensures) (w .0 .left)) (f .d) (f .parent) (f .tree) (l .loop .inv .1 .becomes .whole))))
+          (unseen-absent (seen .result) (now (a .weights)) (a .n) at (s .pre .0) some (seen .ensures) (w .0 .left)) (f .d) (f .parent) (f .tree) (l .loop .inv .1 .becomes .whole))))
           (c .if1 .came),
     )
 

@@ -3,7 +3,7 @@ use Prim.Native.Nat.{_≤_, _-_}
 use native.Mathlib.Omega.{arith}
 use borrow.Author.Needs.{needs}
 use denote.Ref.{now}
-use Rattle.greedy.specs.Good.{weightIn}
+use Rattle.weights.specs.Weighed.{weightIn}
 use Rattle.greedy.proofs.Keys.{fits-short}
 use Rattle.greedy.proofs.Joins.{Joins, joins-start, joins-none, joins-found, joins-more, joins-all}
 use Rattle.greedy.proofs.take_best.Statement.{statement}

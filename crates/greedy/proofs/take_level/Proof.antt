@@ -8,14 +8,17 @@ use denote.Ref.{now}
 use lib.ListN.{getD}
 use Rattle.paper.specs.Levels.{row, rows}
 use Rattle.joining.specs.declared.Forest.{Forest}
-use Rattle.greedy.specs.Good.{Becomes, weightIn}
+use Rattle.weights.specs.Weighed.{weightIn}
+use Rattle.greedy.specs.Good.{Becomes, isTaken}
 use Rattle.greedy.proofs.Pair.{taken-short}
 use Rattle.greedy.proofs.Rows.{rows-start, row-starts, row-dropped, row-added, row-passed, rows-more, rows-end}
 use Rattle.greedy.proofs.take_level.Statement.{statement}
 use Rattle.greedy.proofs.take_level.Tie as tie
 
 abbrev Inv-loop2 : tie.InvT-loop2
-Inv-loop2 weights n bound w f₀ u v₀ f v = (u < v) × (v ≤ n) × Becomes n bound (λ F. row n bound (weightIn weights) w u F v) (f₀ .d) (f₀ .parent) (f₀ .tree) (f .d) (f .parent) (f .tree)
+Inv-loop2 weights n bound w f₀ u v₀ f v =
+    (u < v) × (v ≤ n) × Becomes n bound (λ F. row n bound (weightIn weights) w u F v) (f₀ .d) (f₀ .parent) (f₀ .tree) (f .d) (f .parent) (f .tree)
+    × (v < n → weightIn weights u v ≡ w)
 
 abbrev μ-loop2 : tie.MeasureT-loop2
 μ-loop2 weights n bound w f₀ u v₀ f v = n - v
@@ -46,13 +49,11 @@ loop2-holds c =
       found .within,
       row-passed (a .n) (a .bound) (weightIn (now (a .weights))) (a .w) (l .u) (l .f .d) (l .f .parent) (l .f .tree) (l .f .d) (l .f .parent) (l .f .tree) (l .u + 1) (c .next-of .result) (found .behind) (found .passed)
           (row-starts (a .n) (a .bound) (weightIn (now (a .weights))) (a .w) (l .f .d) (l .f .parent) (l .f .tree) (l .inv .1 .whole) (l .u)),
+      found .found,
     )
 
 mul-takes : tie.Need-mul-takes Inv-loop2 μ-loop2 Inv-loop μ-loop
 mul-takes c = omega arith
-
-add-takes : tie.Need-add-takes Inv-loop2 μ-loop2 Inv-loop μ-loop
-add-takes c = omega arith
 
 element-copy-out-takes : tie.Need-element-copy-out-takes Inv-loop2 μ-loop2 Inv-loop μ-loop
 element-copy-out-takes c = omega arith
@@ -75,26 +76,20 @@ mul-takes-4 c = omega arith
 element-copy-out-takes-4 : tie.Need-element-copy-out-takes-4 Inv-loop2 μ-loop2 Inv-loop μ-loop
 element-copy-out-takes-4 c = omega arith
 
-mul-takes-5 : tie.Need-mul-takes-5 Inv-loop2 μ-loop2 Inv-loop μ-loop
-mul-takes-5 c = omega arith
-
-element-copy-out-takes-5 : tie.Need-element-copy-out-takes-5 Inv-loop2 μ-loop2 Inv-loop μ-loop
-element-copy-out-takes-5 c = omega arith
-
 takes-requires : tie.Need-takes-requires Inv-loop2 μ-loop2 Inv-loop μ-loop
 takes-requires c κs = search needs
 
 join-requires : tie.Need-join-requires Inv-loop2 μ-loop2 Inv-loop μ-loop
 join-requires c κs =
-    let inner = c .before .before .before .before .before .before .before .before in
+    let inner = c .before .before .before .before .before .before .before in
     let s = inner .before .before .before .before in
     let a = s .args in
     let l = inner .loop2 in
     let u = inner .before .before .before .loop .u in
-    let short = taken-short (weightIn (now (a .weights)) u (l .v)) (a .w) (getD (l .f .tree) u 0) (getD (l .f .tree) (l .v) 0)
+    let short = taken-short (a .w) (a .w) (getD (l .f .tree) u 0) (getD (l .f .tree) (l .v) 0)
     (getD (l .f .d) u 0) (getD (l .f .d) (l .v) 0) (a .bound) (c .before .takes .result) (c .before .takes .ensures) (c .if1 .taken) in
     let ub : u < a .n = omega (arith, inner .before .before) in
-    let vb : l .v < a .n = omega (arith, c .before .before .before .before .before .before .before) in
+    let vb : l .v < a .n = omega (arith, c .before .before .before .before .before .before) in
     (s .pre .0, ub, vb, l .inv .2 .whole .low, omega (arith, short, s .fits .bound))
 
 add-next-of-2 : tie.Need-add-next-of-2 Inv-loop2 μ-loop2 Inv-loop μ-loop
@@ -102,11 +97,11 @@ add-next-of-2 c = omega arith
 
 -- The place at the head of the inner loop, from that behind a pair that was tried.
 abbrev head : tie.Joined1 Inv-loop2 μ-loop2 Inv-loop μ-loop → tie.At-loop2 Inv-loop2 μ-loop2 Inv-loop μ-loop
-head c = c .before .before .before .before .before .before .before .before
+head c = c .before .before .before .before .before .before .before
 
 -- A pair was tried, so there is one.
 tried : (c : tie.Joined1 Inv-loop2 μ-loop2 Inv-loop μ-loop) → head c .loop2 .v < head c .before .before .before .before .args .n
-tried c = c .before .before .before .before .before .before .before .loop2-test .taken
+tried c = c .before .before .before .before .before .before .loop2-test .taken
 
 next-of-requires-2 : tie.Need-next-of-requires-2 Inv-loop2 μ-loop2 Inv-loop μ-loop
 next-of-requires-2 c κs =
@@ -116,6 +111,15 @@ next-of-requires-2 c κs =
 
 loop2-less : tie.Need-loop2-less Inv-loop2 μ-loop2 Inv-loop μ-loop
 loop2-less c = omega (arith, c .next-of2 .ensures .behind, tried (c .before))
+
+-- Whether it is added was asked for its own weight.
+asked : (c : tie.Joined1 Inv-loop2 μ-loop2 Inv-loop μ-loop)
+    → let inner = head c in
+    let a = inner .before .before .before .before .args in
+    let l = inner .loop2 in
+    let u = inner .before .before .before .loop .u in
+    c .before .takes .result ≡ isTaken (weightIn (now (a .weights)) u (l .v)) (a .w) (getD (l .f .tree) u 0) (getD (l .f .tree) (l .v) 0) (getD (l .f .d) u 0) (getD (l .f .d) (l .v) 0) (a .bound)
+asked c = rw (head c .loop2 .inv .3 (tried c)) (c .before .takes .ensures)
 
 -- The pair that was tried is taken.
 turned : (c : tie.Joined1 Inv-loop2 μ-loop2 Inv-loop μ-loop)
@@ -132,9 +136,9 @@ turned c =
     let held : Forest → Type 0 = λ (g : Forest). Becomes (a .n) (a .bound) (λ F. row (a .n) (a .bound) (weightIn (now (a .weights))) (a .w) u F (l .v + 1)) (f .d) (f .parent) (f .tree) (g .d) (g .parent) (g .tree) in
     ⊎-elim
     (λ w. subst held (sym (w .2)) (row-added (a .n) (a .bound) (weightIn (now (a .weights))) (a .w) u (f .d) (f .parent) (f .tree) (l .f .d) (l .f .parent) (l .f .tree)
-    (l .v) (l .inv .0) (tried c) (l .inv .2) _ (c .before .takes .ensures) (w .0 .taken) (w .1 .result .d) (w .1 .result .parent) (w .1 .result .tree) (w .1 .ensures)))
+    (l .v) (l .inv .0) (tried c) (l .inv .2) _ (asked c) (w .0 .taken) (w .1 .result .d) (w .1 .result .parent) (w .1 .result .tree) (w .1 .ensures)))
     (λ w. subst held (sym (w .1)) (row-dropped (a .n) (a .bound) (weightIn (now (a .weights))) (a .w) u (f .d) (f .parent) (f .tree) (l .f .d) (l .f .parent) (l .f .tree)
-    (l .v) (l .inv .0) (tried c) (l .inv .2) _ (c .before .takes .ensures) (w .0 .left)))
+    (l .v) (l .inv .0) (tried c) (l .inv .2) _ (asked c) (w .0 .left)))
     (c .if1 .came)
 
 loop2-again : tie.Need-loop2-again Inv-loop2 μ-loop2 Inv-loop μ-loop
@@ -148,6 +152,7 @@ loop2-again c =
       found .within,
       row-passed (a .n) (a .bound) (weightIn (now (a .weights))) (a .w) (outer .u) (outer .f .d) (outer .f .parent) (outer .f .tree) (g .d) (g .parent) (g .tree)
           (inner .loop2 .v + 1) (c .next-of2 .result) (found .behind) (found .passed) (turned (c .before)),
+      found .found,
     )
 
 add-u : tie.Need-add-u Inv-loop2 μ-loop2 Inv-loop μ-loop
@@ -187,7 +192,6 @@ take-level-spec =
     next-of-requires
     loop2-holds
     mul-takes
-    add-takes
     element-copy-out-takes
     mul-takes-2
     element-copy-out-takes-2
@@ -195,8 +199,6 @@ take-level-spec =
     element-copy-out-takes-3
     mul-takes-4
     element-copy-out-takes-4
-    mul-takes-5
-    element-copy-out-takes-5
     takes-requires
     join-requires
     add-next-of-2

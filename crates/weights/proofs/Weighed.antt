@@ -3,11 +3,11 @@ use mathlib.Core.Path.{_≡_}
 use mathlib.Core.List.{List}
 use Prim.Native.Nat.{ℕ, _+_, _*_, _≤_, _<_}
 use native.Mathlib.Omega.{arith}
-use native.Mathlib.Decide.{decLt}
+use native.Mathlib.Decide.{ℕ-discrete, decLt}
 use lib.ListN.{length, set}
+use lib.Seq.{getD-set-same, getD-set-other}
 use Rattle.paper.specs.Forest.{weight}
-use Rattle.joining.proofs.Filled.{getD-set}
-use Rattle.forest.specs.Weighed.{Weighed}
+use Rattle.weights.specs.Weighed.{Weighed}
 
 module _ (t : List ℕ) (n : ℕ) (few : n ≤ 512) (weights : List ℕ) where
   -- At the start no pair is weighed.
@@ -27,9 +27,10 @@ module _ (t : List ℕ) (n : ℕ) (few : n ≤ 512) (weights : List ℕ) where
   pub weighed-more : (u v a : ℕ) → v < n → u * 512 + v < length weights → a ≡ weight t u v → Weighed t n weights (u * 512 + v)
       → Weighed t n (set weights (u * 512 + v) a) (u * 512 + (v + 1))
   weighed-more u v a vb long e W x y xy yb l =
-      getD-set (λ b. b ≡ weight t x y) weights (u * 512 + v) (x * 512 + y) a long
-      (λ q.
-      let xu : x ≡ u = omega arith in
-      let yv : y ≡ v = omega arith in
-      rw (xu, yv) e)
-      (λ ne. W x y xy yb (omega arith))
+      elim (ℕ-discrete (x * 512 + y) (u * 512 + v)) [
+        | yes q ↦
+            let xu : x ≡ u = omega arith in
+            let yv : y ≡ v = omega arith in
+            rw (xu, yv, getD-set-same weights (u * 512 + v) a 0 long) e
+        | no ne ↦ rw (getD-set-other weights (u * 512 + v) (x * 512 + y) a 0 ne) (W x y xy yb (omega arith))
+      ]

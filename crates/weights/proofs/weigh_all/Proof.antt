@@ -4,10 +4,10 @@ use mathlib.Core.Path.{_≡_}
 use native.Mathlib.Omega.{arith}
 use denote.Ref.{now}
 use lib.ListN.{length, length-set}
-use Rattle.forest.specs.Weighed.{Weighed}
-use Rattle.forest.proofs.Weighed.{weighed-starts, weighed-skips, weighed-ends, weighed-more}
-use Rattle.forest.proofs.weigh_all.Statement.{statement}
-use Rattle.forest.proofs.weigh_all.Tie as tie
+use Rattle.weights.specs.Weighed.{Weighed}
+use Rattle.weights.proofs.Weighed.{weighed-starts, weighed-skips, weighed-ends, weighed-more}
+use Rattle.weights.proofs.weigh_all.Statement.{statement}
+use Rattle.weights.proofs.weigh_all.Tie as tie
 
 abbrev Inv-loop2 : tie.InvT-loop2
 Inv-loop2 t n k weights₀ u v₀ weights v = (u < v) × (v ≤ n) × (length weights ≡ 262144) × Weighed t n weights (u * 512 + v)

@@ -8,10 +8,10 @@ use denote.Ref.{now}
 use Rattle.paper.specs.Below.{howMany}
 use Rattle.paper.specs.Table.{classes}
 use Rattle.paper.specs.Forest.{weight}
-use Rattle.forest.specs.Weighed.{agree}
-use Rattle.forest.proofs.Counting.{howMany-hit, howMany-miss}
-use Rattle.forest.proofs.weight_of.Statement.{statement}
-use Rattle.forest.proofs.weight_of.Tie as tie
+use Rattle.weights.specs.Weighed.{agree}
+use Rattle.weights.proofs.Counting.{howMany-hit, howMany-miss}
+use Rattle.weights.proofs.weight_of.Statement.{statement}
+use Rattle.weights.proofs.weight_of.Tie as tie
 
 abbrev Inv-loop : tie.InvT-loop
 Inv-loop t n k u v same₀ c₀ same c = (c ≤ k) × (same ≤ c) × (same ≡ howMany c (agree t u v))

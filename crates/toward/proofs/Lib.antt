@@ -1,0 +1,5 @@
+pub mod Marks
+pub mod Rounds
+pub mod Picked
+pub mod Best
+pub mod Chosen

@@ -1,0 +1,2 @@
+pub mod Weighed
+pub mod Chosen
