@@ -30,8 +30,7 @@ static void trouble(const char *name, const char *what, const char *advice) {
     exit(3);
 }
 
-/* Reads up to `most` bytes; answers how many there were. */
-static size_t read_all(int file, const char *name, uint8_t *bytes, size_t most) {
+size_t read_piece(int file, const char *name, uint8_t *bytes, size_t most) {
     size_t length = 0;
     while (length < most) {
         ssize_t got = read(file, bytes + length, most - length);
@@ -43,7 +42,7 @@ static size_t read_all(int file, const char *name, uint8_t *bytes, size_t most) 
     return length;
 }
 
-size_t read_file(const char *name, uint8_t *bytes, size_t most) {
+int open_file(const char *name) {
     struct stat found;
     int file = open(name, O_RDONLY);
     if (file < 0) trouble(name, "cannot be opened", look);
@@ -52,7 +51,12 @@ size_t read_file(const char *name, uint8_t *bytes, size_t most) {
         errno = 0;
         trouble(name, "is a directory", "name a file");
     }
-    size_t length = read_all(file, name, bytes, most + 1);
+    return file;
+}
+
+size_t read_file(const char *name, uint8_t *bytes, size_t most) {
+    int file = open_file(name);
+    size_t length = read_piece(file, name, bytes, most + 1);
     close(file);
     return length;
 }
@@ -91,7 +95,7 @@ void write_file(const char *name, const uint8_t *bytes, size_t length, accepts *
     if (close(file)) trouble(name, "cannot be closed", free_place);
     file = open(beside, O_RDONLY);
     if (file < 0) trouble(name, "cannot be read back", free_place);
-    size_t got = read_all(file, name, back, length + 1);
+    size_t got = read_piece(file, name, back, length + 1);
     close(file);
     errno = 0;
     if (got != length || memcmp(back, bytes, length)) trouble(name, "was not read back as it was written", "the disk is full or failing: take another; what stood under the name is as it was");

@@ -9,6 +9,11 @@
  * Says what is wrong and ends with status 3 where it cannot be read. */
 size_t read_file(const char *name, uint8_t *bytes, size_t most);
 
+/* Opens a file that is to be read in pieces, and reads the next piece of at most `most` bytes; 0 bytes are its end. Each says what is wrong and ends with status 3
+ * where it cannot be done. */
+int open_file(const char *name);
+size_t read_piece(int file, const char *name, uint8_t *bytes, size_t most);
+
 /* Tells whether bytes read back are what was to be written. */
 typedef int accepts(const uint8_t *bytes, size_t length);
 

@@ -6,14 +6,10 @@
 
 #include "files.h"
 #include "kamordast.h"
+#include "layout.h"
 #include "refusals.h"
-
-enum { DONE = 0, REFUSED = 1, USAGE = 2, TROUBLE = 3 };
-enum {
-    LONGEST_TABLE = 262 + 2 * 512 + 2 * 512 * 256,
-    LONGEST_IMAGE = 280 + 6 * 512 + 4 * 512 * 256,
-    LONGEST_PAYLOAD = 65536,
-};
+#include "served.h"
+#include "status.h"
 
 static uint8_t input[LONGEST_IMAGE + 2], list[1024 + 2], payload[LONGEST_PAYLOAD + 2], room[6 * LONGEST_PAYLOAD + LONGEST_IMAGE];
 
@@ -26,6 +22,7 @@ static const char help[] =
     "  write TABLE DEFAULTS IMAGE     the image of TABLE with a list of defaults, two bytes a state\n"
     "  expand IMAGE TABLE             the table of IMAGE\n"
     "  scan IMAGE PAYLOAD [STATE]     the reports of PAYLOAD, from STATE or the start state\n"
+    "  served [--sort] IMAGE PAYLOAD  for each state how often it served and how often it ran; --sort: the one that served most first\n"
     "  bounds TABLE                   depth, worst, entries, defaults and bytes with bounds 0 to 3\n"
     "  forest [--dot] [--order N] TABLE BOUND\n"
     "                                 which state falls back to which, as lines or for Graphviz\n"
@@ -33,24 +30,14 @@ static const char help[] =
     "Orders of pairs of equal weight: 0 by pair (where none is named), 1 the shortest path over the pair (BGS), 2 the least growth (REF).\n"
     "Order 3 lets each state fall back toward the start: a whole payload from there costs no more hops than it has bytes, and BOUND changes nothing.\n"
     "Example: kamordast compact --order 3 examples/words.table 0 words.image\n"
-    "Exit status: 0 done, 1 refused (the number and what to do on standard error), 2 usage, 3 file trouble.\n"
+    "Example: kamordast served --sort words.image README.md\n"
+    "Exit status: 0 done, 1 refused (the number and what to do on standard error), 2 usage, 3 file trouble, 4 a count that is not the scan's.\n"
     "A file is written beside its place, read back and judged before it gets its name.\n";
 
 static int usage(const char *what) {
     fprintf(stderr, "kamordast: %s\ntry: kamordast --help\n", what);
     return USAGE;
 }
-
-static int refuse(const char *name, uint32_t number) {
-    fprintf(stderr, "kamordast: %s: refused %u: %s\n  what to do: %s\n", name, (unsigned)number, refusal_meaning(number), refusal_advice(number));
-    return REFUSED;
-}
-
-static uint32_t number16(const uint8_t *b, size_t at) { return b[at] + 256u * b[at + 1]; }
-static uint32_t number32(const uint8_t *b, size_t at) { return number16(b, at) + 65536u * number16(b, at + 2); }
-
-/* Where the records of an accepted image begin: from its back. */
-static size_t records_at(const uint8_t *image, size_t length) { return length - 12 - 4 * (size_t)number32(image, 8) - 4 * (size_t)number16(image, 0); }
 
 static int is_image(const uint8_t *bytes, size_t length) { return kamordast_judge_image(bytes, length) == 0; }
 static int is_table(const uint8_t *bytes, size_t length) { return kamordast_judge_table(bytes, length) == 0; }
@@ -139,7 +126,7 @@ static int scan(const char *image, const char *bytes, const char *state_word) {
 /* How many states of the image in the room have a default. */
 static uint32_t defaults_in(size_t length) {
     uint32_t used = 0, n = number16(room, 0);
-    for (uint32_t s = 0; s < n; s++) used += number16(room, records_at(room, length) + 4 * s) != 65535;
+    for (uint32_t s = 0; s < n; s++) used += number16(room, records_at(room, length) + 4 * s) != NO_STATE;
     return used;
 }
 
@@ -168,9 +155,9 @@ static int forest(const char *order_word, const char *table, const char *bound_w
     for (uint32_t s = 0; s < n; s++) {
         uint32_t d = number16(room, records + 4 * (size_t)s), count = number16(room, records + 4 * (size_t)s + 2), label = number16(input, 262 + 2 * (size_t)s);
         if (dot) {
-            printf("  %u [label = \"%u\\n%u stored\"%s%s];\n", (unsigned)s, (unsigned)s, (unsigned)count, d == 65535 ? ", style = bold" : "", label ? ", peripheries = 2" : "");
-            if (d != 65535) printf("  %u -> %u;\n", (unsigned)s, (unsigned)d);
-        } else if (d == 65535) {
+            printf("  %u [label = \"%u\\n%u stored\"%s%s];\n", (unsigned)s, (unsigned)s, (unsigned)count, d == NO_STATE ? ", style = bold" : "", label ? ", peripheries = 2" : "");
+            if (d != NO_STATE) printf("  %u -> %u;\n", (unsigned)s, (unsigned)d);
+        } else if (d == NO_STATE) {
             printf("%u root, stores %u\n", (unsigned)s, (unsigned)count);
         } else {
             printf("%u falls to %u, stores %u\n", (unsigned)s, (unsigned)d, (unsigned)count);
@@ -210,6 +197,10 @@ static int run(int count, char **words) {
     if (!strcmp(command, "expand")) return count == 4 ? expand(words[2], words[3]) : usage("expand wants IMAGE TABLE");
     if (!strcmp(command, "scan"))
         return count == 4 || count == 5 ? scan(words[2], words[3], count == 5 ? words[4] : NULL) : usage("scan wants IMAGE PAYLOAD [STATE]");
+    if (!strcmp(command, "served")) {
+        int sorted = option(&count, words, "--sort", NULL);
+        return count == 4 ? served(words[2], words[3], sorted) : usage("served wants [--sort] IMAGE PAYLOAD");
+    }
     if (!strcmp(command, "bounds")) return count == 3 ? bounds(words[2]) : usage("bounds wants TABLE");
     if (!strcmp(command, "forest")) {
         const char *order = "0";

@@ -1,5 +1,9 @@
 #include "refusals.h"
 
+#include <stdio.h>
+
+#include "status.h"
+
 static const struct {
     const char *meaning, *advice;
 } sheet[] = {
@@ -28,3 +32,8 @@ static const struct {
 static int known(uint32_t number) { return number < sizeof sheet / sizeof *sheet && sheet[number].meaning; }
 const char *refusal_meaning(uint32_t number) { return known(number) ? sheet[number].meaning : "this is no refusal's number"; }
 const char *refusal_advice(uint32_t number) { return known(number) ? sheet[number].advice : "call the engineers"; }
+
+int refuse(const char *name, uint32_t number) {
+    fprintf(stderr, "kamordast: %s: refused %u: %s\n  what to do: %s\n", name, (unsigned)number, refusal_meaning(number), refusal_advice(number));
+    return REFUSED;
+}

@@ -8,4 +8,7 @@
 const char *refusal_meaning(uint32_t number);
 const char *refusal_advice(uint32_t number);
 
+/* Says of a file, or of a word that was typed, that it is refused, what that means and what to do. Answers the status. */
+int refuse(const char *name, uint32_t number);
+
 #endif

@@ -1,5 +1,6 @@
-# Sourced by the scripts that build C for the archive, which is x86-64: sets CC, the compiler, and RUN, what runs a program built by it (empty on
-# x86-64). Installs the compiler where the machine has none. On aarch64 a program is linked statically and run by the toolchain's emulator.
+# Sourced by the scripts that build C for the archive, which is x86-64: sets CC, the compiler, RUN, what runs a program built by it (empty on
+# x86-64), and LOAD, what runs a program of target/bin: it is linked to the toolchain's own C library. Installs the compiler where the machine has
+# none. On aarch64 a program is linked statically and run by the toolchain's emulator.
 install_package() {
     echo "installing $1" >&2
     { apt-get install -y -qq "$1" || { apt-get update -qq && apt-get install -y -qq "$1"; }; } >/dev/null 2>&1 || {
@@ -24,3 +25,5 @@ aarch64)
     exit 3
     ;;
 esac
+tools=$(dirname "$(readlink -f "$(command -v rt)")")/../on/$(uname -m)/toolchain/lib
+LOAD="$RUN $tools/ld-linux-x86-64.so.2 --library-path $tools"

@@ -67,40 +67,13 @@ static void random_tables(int rounds) {
     }
 }
 
-/* Damage where the grounds look, in a copy of `image`, with the check word mended so that the later grounds are reached. */
-static void damage_image(uint8_t *b, size_t length) {
-    uint32_t n = number16(image, 0), k = number16(image, 2), m = number32(image, 8);
-    size_t records = length - 12 - 4 * (size_t)m - 4 * (size_t)n, entries = records + 4 * (size_t)n;
-    switch (below(12)) {
-    case 0: set16(b, 2 * below(4), below(2) ? below(n + 2) : below(65536)); break;
-    case 1: set32(b, 8, below(2) ? m + below(3) - 1 : below(1u << 31) * 2u); break;
-    case 2: set32(b, length - 4 * (2 + below(2)), (uint32_t)length + below(5) - 2); break;
-    case 3: b[12 + below(256)] = (uint8_t)below(k + 1 < 256 ? k + 1 : 256); break;
-    case 4: set16(b, records + 4 * below(n), below(3) ? below(n + 1) : 65535); break;
-    case 5: set16(b, records + 4 * below(n) + 2, below(k + 2)); break;
-    case 6: set16(b, entries + 4 * below(m), below(k + 1)); break;
-    case 7: set16(b, entries + 4 * below(m) + 2, below(n + 1)); break;
-    case 8: set16(b, 6, number16(b, 6) + below(3) - 1); break;
-    case 9: set16(b, length - 4, number16(b, length - 4) + below(3) - 1); break;
-    case 10: {
-        /* Two counts moved against each other keep the sum. */
-        size_t from = records + 4 * below(n) + 2, to = records + 4 * below(n) + 2;
-        set16(b, from, number16(b, from) - 1);
-        set16(b, to, number16(b, to) + 1);
-        break;
-    }
-    default: b[below((uint32_t)length)] ^= (uint8_t)(1 << below(8));
-    }
-    if (below(6)) mend_check_word(b, length);
-}
-
 static void random_images(int rounds) {
     while (rounds--) {
         size_t length = some_image();
         expect(judged(1, image, length), 0, "an image as it should be");
         for (int copies = 0; copies < 4; copies++) {
             memcpy(other, image, length);
-            for (int damage = below(3); damage >= 0; damage--) damage_image(other, length);
+            for (int damage = below(3); damage >= 0; damage--) damage_image(other, image, length);
             judged(1, other, below(8) ? length : below((uint32_t)length + 1));
         }
     }

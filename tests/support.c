@@ -107,6 +107,32 @@ void make_defaults(uint8_t *defaults, uint32_t n, uint32_t often) {
     for (uint32_t i = 0; i < n; i++) set16(defaults, 2 * order[i], i > 0 && below(256) < often ? order[below(8) ? below(i) : i - 1] : 65535);
 }
 
+void damage_image(uint8_t *b, const uint8_t *image, size_t length) {
+    uint32_t n = number16(image, 0), k = number16(image, 2), m = number32(image, 8);
+    size_t records = length - 12 - 4 * (size_t)m - 4 * (size_t)n, entries = records + 4 * (size_t)n;
+    switch (below(12)) {
+    case 0: set16(b, 2 * below(4), below(2) ? below(n + 2) : below(65536)); break;
+    case 1: set32(b, 8, below(2) ? m + below(3) - 1 : below(1u << 31) * 2u); break;
+    case 2: set32(b, length - 4 * (2 + below(2)), (uint32_t)length + below(5) - 2); break;
+    case 3: b[12 + below(256)] = (uint8_t)below(k + 1 < 256 ? k + 1 : 256); break;
+    case 4: set16(b, records + 4 * below(n), below(3) ? below(n + 1) : 65535); break;
+    case 5: set16(b, records + 4 * below(n) + 2, below(k + 2)); break;
+    case 6: set16(b, entries + 4 * below(m), below(k + 1)); break;
+    case 7: set16(b, entries + 4 * below(m) + 2, below(n + 1)); break;
+    case 8: set16(b, 6, number16(b, 6) + below(3) - 1); break;
+    case 9: set16(b, length - 4, number16(b, length - 4) + below(3) - 1); break;
+    case 10: {
+        /* Two counts moved against each other keep the sum. */
+        size_t from = records + 4 * below(n) + 2, to = records + 4 * below(n) + 2;
+        set16(b, from, number16(b, from) - 1);
+        set16(b, to, number16(b, to) + 1);
+        break;
+    }
+    default: b[below((uint32_t)length)] ^= (uint8_t)(1 << below(8));
+    }
+    if (below(6)) mend_check_word(b, length);
+}
+
 guarded guard(size_t most) {
     size_t page = (size_t)sysconf(_SC_PAGESIZE), size = (most + page - 1) / page * page;
     uint8_t *pages = mmap(NULL, size + 2 * page, PROT_NONE, MAP_PRIVATE | MAP_ANONYMOUS, -1, 0);

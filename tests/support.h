@@ -36,6 +36,9 @@ size_t make_stairs(uint8_t *table);
 /* A list of defaults without a circle: a state has one in `often` of 256 cases. */
 void make_defaults(uint8_t *defaults, uint32_t n, uint32_t often);
 
+/* Damage where the grounds look, in a copy of an accepted image, most times with the check word mended so that the later grounds are reached. */
+void damage_image(uint8_t *copy, const uint8_t *image, size_t length);
+
 /* Bytes between two pages that may not be touched. `at_end` of them stands right before the second page, `at_start` right behind the first. */
 typedef struct {
     uint8_t *pages;

@@ -5,10 +5,10 @@ ghost use mathlib.Core.Option.{some};
 ghost use Prim.Native.Nat.{ℕ, _≤_, _<_, max};
 ghost use lib.ListN.{length, getD};
 ghost use Rattle.paper.specs.Below.{any, largest as largestOf};
-ghost use Rattle.paper.specs.View.{endless, depthOf, served};
+ghost use Rattle.paper.specs.View.{endless, depthOf};
 ghost use Rattle.paper.specs.Image.{defaultFrom};
 ghost use Rattle.chains.specs.Orders.{defaultsView, InRange, ChainLength, ParentFirst};
-ghost use Rattle.chains.specs.Sweeps.{RootsStore, foundAt, Resolves};
+ghost use Rattle.chains.specs.Sweeps.{RootsStore, keptAt, reckoned, Resolves};
 
 mod setting;
 
@@ -119,8 +119,7 @@ fn found_at(
     s: usize,
 ) -> Found
     requires { ⌜ (s < 512) × (getD (now own) s 0 ≡ 65535 → (getD (now def) s 0 < 512) × (getD (now hop) (getD (now def) s 0) 0 < 512)) ⌝ }
-    ensures { λ r. ⌜ served (defaultFrom (getD (now (own .entry)) s 0)) (defaultFrom (getD (now (def .entry)) s 0)) (λ d. some (foundAt (now (to .entry)) (now (hop .entry)) d))
-        ≡ some (record { target = r .target; hops = r .hops }) ⌝ }
+    ensures { λ r. ⌜ reckoned (defaultFrom (getD (now (own .entry)) s 0)) (defaultFrom (getD (now (def .entry)) s 0)) (keptAt (now (to .entry)) (now (hop .entry))) ≡ some (r .target, r .hops) ⌝ }
 {
     let t = own[s];
     if t != 65535 {

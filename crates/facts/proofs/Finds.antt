@@ -34,7 +34,7 @@ module _ (b : List ℕ) (A : AcceptedImage b) where
 
   -- What the look-up finds is what the chain gives.
   pub look-served : (s x : ℕ) → s < states b → x < 256
-      → Serves (imageView b) s (classOf b x) (look (imageView b) s (classOf b x) .hops) (look (imageView b) s (classOf b x) .target)
+      → Serves (imageView b) s (classOf b x) (look (imageView b) s (classOf b x) .server) (look (imageView b) s (classOf b x) .hops) (look (imageView b) s (classOf b x) .target)
   look-served = finds-serves (imageView b) (omega (arith, A .some-states)) (A .right .ends) (classOf b) byte-found
 
   -- The stated depth is that of the longest chain.

@@ -1,2 +1,3 @@
 pub mod Named
 pub mod Shown
+pub mod Lines

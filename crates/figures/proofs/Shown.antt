@@ -7,12 +7,13 @@ use Rattle.paper.specs.Words.{Bytes, number16, number32}
 use Rattle.paper.specs.Image.{depth, entries, worst}
 use Rattle.paper.specs.Refusals.{first}
 use Rattle.paper.specs.Operations.{result, compacted, compactGrounds, compact}
+use Rattle.paper.specs.Programs.{defaultsIn}
 use Rattle.paper.specs.Promises.{Compacts}
 use Rattle.paper.proofs.Refused.{compact-refused}
 use Rattle.facts.proofs.ImageFacts.{AcceptedImage, accepted-image}
 use Rattle.trips.proofs.Building.{result-fits, result-none}
 use Rattle.kamordast.proofs.Compacted.{compacted-accepted}
-use Rattle.figures.specs.Figures.{defaultsIn, Shows}
+use Rattle.figures.specs.Figures.{Shows}
 
 module _ (t : List ℕ) (order D : ℕ) (room : List ℕ) {number l : ℕ} {left : List ℕ} (P : Compacts t order D room number l left) where
   -- What stands at the front of the room is the image that was built.

@@ -1,14 +1,9 @@
 -- The figures of an image that was built: what the program prints of it.
 use mathlib.Core.Path.{_≡_}
-use mathlib.Core.List.{List}
 use Prim.Native.Nat.{ℕ}
-use Rattle.paper.specs.Below.{howMany, given}
-use Rattle.paper.specs.Image.{states, depth, entries, default, worst}
+use Rattle.paper.specs.Image.{depth, entries, worst}
 use Rattle.paper.specs.Operations.{result, Built}
-
--- How many states of an image have a default.
-abbrev pub defaultsIn : List ℕ → ℕ
-defaultsIn b = howMany (states b) (λ s. given (default b s))
+use Rattle.paper.specs.Programs.{defaultsIn}
 
 -- The numbers are those of an image built or refused, read out of the image.
 pub record Shows (o : Built) (number deep far stored defaults bytes : ℕ) : Type 0 where

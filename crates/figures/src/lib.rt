@@ -3,10 +3,11 @@ ghost use mathlib.Core.Path.{_≡_};
 ghost use Rattle.paper.specs.Below.{bit, given};
 ghost use Rattle.paper.specs.Image.{states, depth, worst, entries};
 ghost use Rattle.paper.specs.Operations.{compact};
+ghost use Rattle.paper.specs.Programs.{defaultsIn};
 ghost use Rattle.facts.proofs.ImageFacts.{AcceptedImage};
 ghost use Rattle.image.specs.Forms.{defaultOf};
 ghost use Rattle.image.specs.Laid.{Laid};
-ghost use Rattle.figures.specs.Figures.{defaultsIn, Shows};
+ghost use Rattle.figures.specs.Figures.{Shows};
 
 // The figures of a table compacted: 0 or the refusal's number, depth, worst, entries stored, defaults, length.
 pub struct Figures {

@@ -33,7 +33,7 @@ pub record Way (b : List ℕ) (state class s hops : ℕ) : Type 0 where
   pub inside : s < states b
   pub ends : chain (imageView b) (states b) s ≡ some (stepsLeft b s)
   pub few : hops + stepsLeft b s < 512
-  pub leads : (h t : ℕ) → Serves (imageView b) s class h t → Serves (imageView b) state class (hops + h) t
+  pub leads : (r h t : ℕ) → Serves (imageView b) s class r h t → Serves (imageView b) state class r (hops + h) t
 
 -- It goes on from s at d, one hop further, and a step less is left.
 pub record Onward (b : List ℕ) (state class s hops d : ℕ) : Type 0 where
@@ -58,17 +58,17 @@ module _ (b : List ℕ) (A : AcceptedImage b) where
           inside = hs;
           ends = e;
           few = omega (arith, chain-short (imageView b) (states b) state (stepsLeft b state) e, A .few-states);
-          leads = λ h t S. rw (zero-add h) S;
+          leads = λ r h t S. rw (zero-add h) S;
         }
 
     module _ (s hops : ℕ) (W : Way b state class s hops) where
       -- A target stored here is what it finds, after these hops.
-      way-found : (t : ℕ) → stored (imageView b) s class ≡ some t → look (imageView b) state class ≡ record { target = t; hops = hops }
+      way-found : (t : ℕ) → stored (imageView b) s class ≡ some t → look (imageView b) state class ≡ record { target = t; hops = hops; server = s }
       way-found t e =
-          let own : Serves (imageView b) state class hops t = rw add-zero at (W .leads 0 t (serves-own (imageView b) class s t e)) in
+          let own : Serves (imageView b) state class s hops t = rw add-zero at (W .leads s 0 t (serves-own (imageView b) class s t e)) in
           let q = ends-left state hs in
-          ap (λ (o : Option Found). or o (here 0))
-          (serves-find (imageView b) class state (stepsLeft b state) hops t q (chain-short (imageView b) (states b) state (stepsLeft b state) q) own)
+          ap (λ (o : Option Found). or o (here 0 0))
+          (serves-find (imageView b) class state (stepsLeft b state) s hops t q (chain-short (imageView b) (states b) state (stepsLeft b state) q) own)
 
       -- Where nothing is stored here it goes on at the default.
       way-on : stored (imageView b) s class ≡ none → (d : ℕ) → default b s ≡ some d → Onward b state class s hops d
@@ -81,9 +81,9 @@ module _ (b : List ℕ) (A : AcceptedImage b) where
               inside = below;
               ends = ends-left d below;
               few = omega (arith, W .few);
-              leads = λ h t S.
+              leads = λ x h t S.
                   let further : hops + suc h ≡ hops + 1 + h = omega arith in
-                  rw (← further) (W .leads (suc h) t (serves-on (imageView b) class s d h t e r S));
+                  rw (← further) (W .leads x (suc h) t (serves-on (imageView b) class s d x h t e r S));
             };
             nearer = omega arith;
           }
@@ -98,10 +98,11 @@ module _ (b : List ℕ) (A : AcceptedImage b) where
         step-here = step-is ∙ ap stepOf (ap (λ (r : List ℕ). storedIn r class) row-is ∙ part-stored b (accepted-laid b A) s (W .inside) class)
 
         -- A step over the state's entries that answers a target has found it.
-        pub way-answered : (t : ℕ) → step ≡ Stored t → (t ≡ look (imageView b) state class .target) × (hops ≡ look (imageView b) state class .hops)
+        pub way-answered : (t : ℕ) → step ≡ Stored t
+            → (t ≡ look (imageView b) state class .target) × (hops ≡ look (imageView b) state class .hops) × (s ≡ look (imageView b) state class .server)
         way-answered t q =
             let found = way-found t (step-stored (stored (imageView b) s class) step t step-here q) in
-            (sym (ap (λ (f : Found). f .target) found), sym (ap (λ (f : Found). f .hops) found))
+            (sym (ap (λ (f : Found). f .target) found), sym (ap (λ (f : Found). f .hops) found), sym (ap (λ (f : Found). f .server) found))
 
         -- One that answers nothing sends it on to where the record falls, and that is no root.
         pub way-sent : step ≡ Nothing → (r : Record) → r ≡ recordAt b (recordsAt b + 4 * s) → (d : ℕ) → (r .fallback ≡ FallsTo d) ⊎ (r .fallback ≡ Root) → Onward b state class s hops d

@@ -140,10 +140,11 @@ pub fn stored_in(row: &[u8], k: usize, class: u16) -> Step
     search(row, count, class)
 }
 
-// What a look-up finds: the next state, and the hops to the state that stores it.
+// What a look-up finds: the next state, the hops to the state that stores it, and that state, whose entry served.
 pub struct Found {
     pub target: u16,
     pub hops: u32,
+    pub server: u16,
 }
 
 // Follows the defaults from a state to the first that stores the class.
@@ -156,7 +157,8 @@ pub fn look_up(
     class: u16,
 ) -> Found
     requires { ⌜ Ready (now image) (now begins) records k × (state < states (now image)) × (class < classes (now image)) ⌝ }
-    ensures { λ r. ⌜ (r .target ≡ look (imageView (now (image .entry))) state class .target) × (r .hops ≡ look (imageView (now (image .entry))) state class .hops) ⌝ }
+    ensures { λ r. ⌜ (r .target ≡ look (imageView (now (image .entry))) state class .target) × (r .hops ≡ look (imageView (now (image .entry))) state class .hops)
+        × (r .server ≡ look (imageView (now (image .entry))) state class .server) ⌝ }
 {
     let mut s = state;
     let mut hops: u32 = 0;
@@ -167,6 +169,7 @@ pub fn look_up(
                 return Found {
                     target: t,
                     hops: hops,
+                    server: s,
                 };
             }
             Step::Nothing => {

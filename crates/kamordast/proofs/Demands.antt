@@ -10,7 +10,7 @@ use lib.ListN.{length, take}
 use Rattle.paper.specs.Below.{sum, howMany, given}
 use Rattle.paper.specs.Words.{byteAt, Bytes}
 use Rattle.paper.specs.Table.{states, classes, start}
-use Rattle.paper.specs.View.{look}
+use Rattle.paper.specs.View.{stored, steps, look}
 use Rattle.paper.specs.Image as image
 use Rattle.paper.specs.Image.{imageView}
 use Rattle.paper.specs.Results.{defaultsOf, tableOf}
@@ -114,18 +114,27 @@ pub scan-follows : ((b : List ℕ) → Bytes b → judgeImage b ≡ 0 → ScansL
     × ((t ds room : List ℕ) → Bytes t → write t ds room .number ≡ 0 → ScansLike t (result (write t ds room)))
 scan-follows = (scanned.accepted-scans, scanned.compacted-scans, scanned.written-scans)
 
--- What the look-up finds for a state and a byte is what the chain gives: so many steps on stands the first state that stores the class.
+-- What the look-up finds for a state and a byte is what the chain gives: so many steps on stands the server, the first state that stores the class.
 pub look-served : (b : List ℕ) → judgeImage b ≡ 0 → (s x : ℕ) → s < image.states b → x < 256
-    → Serves (imageView b) s (image.classOf b x) (look (imageView b) s (image.classOf b x) .hops) (look (imageView b) s (image.classOf b x) .target)
+    → let f = look (imageView b) s (image.classOf b x) in
+    Serves (imageView b) s (image.classOf b x) (f .server) (f .hops) (f .target)
 look-served b e = finds.look-served b (accepted-image b e)
 
--- Hops counted are those of the chain's definition: for each byte taken the chain of the state before it gives the state after it in so many hops, and these together are the hops answered.
+-- The server is the state `hops` steps along the chain; it stores the target for the class, and no state before it stores one.
+pub server-is : (b : List ℕ) → judgeImage b ≡ 0 → (s x : ℕ) → s < image.states b → x < 256
+    → let c = image.classOf b x in
+    let f = look (imageView b) s c in
+    (steps (imageView b) (f .hops) s ≡ some (f .server)) × (stored (imageView b) (f .server) c ≡ some (f .target))
+    × ((i y : ℕ) → i < f .hops → steps (imageView b) i s ≡ some y → stored (imageView b) y c ≡ none)
+server-is b e s x hs hx = let S = look-served b e s x hs hx in (S .reached, S .stores, S .passed)
+
+-- Hops counted are those of the chain's definition: for each byte taken a server on the chain of the state before it gives the state after it in so many hops, and these together are the hops answered.
 pub hops-counted : (b : List ℕ) (s : ℕ) (payload room : List ℕ) → Bytes payload → scan b s payload room .number ≡ 0
-    → (hops : ℕ → ℕ)
+    → (server : ℕ → ℕ) × (hops : ℕ → ℕ)
     × ((i : ℕ) → i < scan b s payload room .taken
-    → Serves (imageView b) (scan b s (take i payload) room .state) (image.classOf b (byteAt payload i)) (hops i) (scan b s (take (i + 1) payload) room .state))
+    → Serves (imageView b) (scan b s (take i payload) room .state) (image.classOf b (byteAt payload i)) (server i) (hops i) (scan b s (take (i + 1) payload) room .state))
     × (scan b s payload room .hops ≡ sum (scan b s payload room .taken) hops)
-hops-counted b s payload room P e = let C = hops.hops-counted b s payload room P e in (_, C .served, C .together)
+hops-counted b s payload room P e = let C = hops.hops-counted b s payload room P e in (_, _, C .served, C .together)
 
 -- They are at most worst times the bytes taken.
 pub hops-bounded : (b : List ℕ) (s : ℕ) (payload room : List ℕ) → Bytes payload → scan b s payload room .number ≡ 0

@@ -41,7 +41,7 @@ module _ (t : List ℕ) (B : Bytes t) (e : judgeTable t ≡ 0) where
   same-look s x hs hx =
       let R = reads t (towardStart t) B (start-writable t e) in
       ap (look (imageView image) s) (R .class-is x hx)
-      ∙ ap (λ (o : Option Found). or o (here 0)) (sym (find-same (tableView t (towardStart t)) (imageView image) (R .view-is) (falls-inside t) s (table.classOf t x) hs))
+      ∙ ap (λ (o : Option Found). or o (here 0 0)) (sym (find-same (tableView t (towardStart t)) (imageView image) (R .view-is) (falls-inside t) s (table.classOf t x) hs))
 
   -- So each byte costs as in the table.
   image-nears : Nears t (look (imageView image)) (classOf image)

@@ -28,9 +28,9 @@ module _ (v : View) where
   -- There is one number of largest hops.
   pub largest-once : (classOf : ℕ → ℕ) (a b : ℕ) → LargestHops v classOf a → LargestHops v classOf b → a ≡ b
   largest-once classOf a b A B =
-      let (s, hs, (x, hx, (t, S))) = A .one-so-many in
-      let (r, hr, (y, hy, (u, R))) = B .one-so-many in
-      omega (arith, B .none-more s x a t hs hx S, A .none-more r y b u hr hy R)
+      let (s, hs, (x, hx, (p, t, S))) = A .one-so-many in
+      let (r, hr, (y, hy, (q, u, R))) = B .one-so-many in
+      omega (arith, B .none-more s x p a t hs hx S, A .none-more r y q b u hr hy R)
 
   module _ (states : 0 < v .states) (ends : (s : ℕ) → s < v .states → (l : ℕ) × (chain v (v .states) s ≡ some l)) where
     -- The depth is that of the longest chain.
@@ -49,23 +49,23 @@ module _ (v : View) where
 
     module _ (classOf : ℕ → ℕ) (finds : (s x : ℕ) → s < v .states → x < 256 → (r : Found) × (find v s (classOf x) ≡ some r)) where
       -- What the look-up finds is what the chain gives.
-      pub finds-serves : (s x : ℕ) → s < v .states → x < 256 → Serves v s (classOf x) (look v s (classOf x) .hops) (look v s (classOf x) .target)
+      pub finds-serves : (s x : ℕ) → s < v .states → x < 256 → Serves v s (classOf x) (look v s (classOf x) .server) (look v s (classOf x) .hops) (look v s (classOf x) .target)
       finds-serves s x hs hx =
           let (r, w) = finds s x hs hx in
-          let found : look v s (classOf x) ≡ r = ap (λ (o : Option Found). or o (here 0)) w in
+          let found : look v s (classOf x) ≡ r = ap (λ (o : Option Found). or o (here 0 0)) w in
           rw found (look-serves v (classOf x) (v .states) s r w)
 
       -- The worst is that of the largest hops.
       pub worst-is-largest : LargestHops v classOf (worstOf v classOf)
       worst-is-largest =
           record {
-            none-more = λ s x hops target hs hx S.
+            none-more = λ s x server hops target hs hx S.
                 let (l, e) = ends s hs in
-                let w = serves-find v (classOf x) s l hops target e (chain-short v (v .states) s l e) S in
-                omega (arith, worst-upper v classOf s x hs hx, ap (λ (o : Option Found). or o (here 0) .hops) w);
+                let w = serves-find v (classOf x) s l server hops target e (chain-short v (v .states) s l e) S in
+                omega (arith, worst-upper v classOf s x hs hx, ap (λ (o : Option Found). or o (here 0 0) .hops) w);
             one-so-many =
                 let (s, x, hs, hx, q) = worst-met v classOf states in
-                (s, hs, (x, hx, (look v s (classOf x) .target, rw (← q) (finds-serves s x hs hx))));
+                (s, hs, (x, hx, (look v s (classOf x) .server, look v s (classOf x) .target, rw (← q) (finds-serves s x hs hx))));
           }
 
       -- A stated worst differs just where it is not that.

@@ -57,12 +57,12 @@ module _ (v : View) where
           (λ e. (i, refl, h .0 e), λ w. let q : i ≡ w .0 = omega (arith, w .1) in h .1 (λ l. w .2 (rw (← q) l)))
 
   -- A look-up gives a target just where the chain does, where it ends.
-  holds-gives : (d l c t : ℕ) → chain v (v .states) d ≡ some l → Holds (gives (find v d c) t) ((hops : ℕ) × Serves v d c hops t)
-  holds-gives d l c t e = (forth (find v d c) refl, λ w. ap (λ (o : Option Found). gives o t) (serves-find v c d l (w .0) t e (chain-short v (v .states) d l e) (w .1)) ∙ eq-eqb t t refl)
+  holds-gives : (d l c t : ℕ) → chain v (v .states) d ≡ some l → Holds (gives (find v d c) t) ((server : ℕ) × (hops : ℕ) × Serves v d c server hops t)
+  holds-gives d l c t e = (forth (find v d c) refl, λ w. ap (λ (o : Option Found). gives o t) (serves-find v c d l (w .0) (w .1) t e (chain-short v (v .states) d l e) (w .2)) ∙ eq-eqb t t refl)
     where
-      forth : (o : Option Found) → find v d c ≡ o → gives o t ≡ true → (hops : ℕ) × Serves v d c hops t
+      forth : (o : Option Found) → find v d c ≡ o → gives o t ≡ true → (server : ℕ) × (hops : ℕ) × Serves v d c server hops t
       forth none q g = absurd (true≢false (sym g))
-      forth (some r) q g = (r .hops, rw (← eqb-true (r .target) t g) (look-serves v c (v .states) d r q))
+      forth (some r) q g = (r .server, r .hops, rw (← eqb-true (r .target) t g) (look-serves v c (v .states) d r q))
 
   -- Ground 12 at an entry, where chains end.
   holds-needless : Inside v → ((s : ℕ) → s < v .states → (l : ℕ) × (chain v (v .states) s ≡ some l))
@@ -70,12 +70,12 @@ module _ (v : View) where
   holds-needless inside ends s j hs = go (v .default s) refl
     where
       go : (o : Option ℕ) → v .default s ≡ o
-          → Holds (defaultGives v o (v .entryClass s j) (v .entryNext s j)) ((d : ℕ) × (o ≡ some d) × ((hops : ℕ) × Serves v d (v .entryClass s j) hops (v .entryNext s j)))
+          → Holds (defaultGives v o (v .entryClass s j) (v .entryNext s j)) ((d : ℕ) × (o ≡ some d) × ((server : ℕ) × (hops : ℕ) × Serves v d (v .entryClass s j) server hops (v .entryNext s j)))
       go none q = (λ e. absurd (true≢false (sym e)), λ w. absurd (none≢some none (w .0) refl (w .1)))
       go (some d) q =
           let (l, e) = ends d (inside s d hs q) in
           let h = holds-gives d l (v .entryClass s j) (v .entryNext s j) e in
-          (λ g. (d, refl, h .0 g), λ w. h .1 (w .2 .0, rw (some-same (w .1)) (w .2 .1)))
+          (λ g. (d, refl, h .0 g), λ w. h .1 (w .2 .0, w .2 .1, rw (some-same (w .1)) (w .2 .2)))
 
   -- Where no default is wrong, they stay among the states.
   pub inside-list : ¬ Some (v .states) (λ s. DefaultWrong v (v .default s)) → Inside v

@@ -7,12 +7,14 @@ use lib.ListN.{length, replicate, take}
 use Rattle.paper.specs.Below.{sum, list, or}
 use Rattle.paper.specs.Words.{bytes16, bytes32, checkWord}
 use Rattle.paper.specs.Table.{states}
+use Rattle.paper.specs.View.{Found, look}
 use Rattle.paper.specs.Image as image
-use Rattle.paper.specs.Image.{entries, depth, worst}
+use Rattle.paper.specs.Image.{entries, depth, worst, imageView}
 use Rattle.paper.specs.Results.{defaultNumber, imageOf}
 use Rattle.paper.specs.Forest.{Trees, weight, singles, joined, root, lean, forest}
 use Rattle.paper.specs.FallBack.{level}
 use Rattle.paper.specs.Operations.{judgeTable, Built, compacted, compact, listed, write, Scanned, scan}
+use Rattle.paper.specs.Programs.{boundsText, servedText}
 
 -- Numbers of 16 bits, one after the other.
 abbrev pub all16 : List ℕ → List ℕ
@@ -115,6 +117,21 @@ seven =
 abbrev pub levelled : List ℕ → List ℕ
 levelled t = list (states t) (λ x. or (level t x) 65535)
 
+-- What a look-up finds: the next state, the hops and the server.
+abbrev pub found : Found → List ℕ
+found f = f .target ∷ f .hops ∷ f .server ∷ []
+
+-- The lines that the paper gives for `bounds` of T.
+abbrev pub linesOfT : List ℕ
+linesOfT =
+    98 ∷ 111 ∷ 117 ∷ 110 ∷ 100 ∷ 32 ∷ 100 ∷ 101 ∷ 112 ∷ 116 ∷ 104 ∷ 32 ∷ 119 ∷ 111 ∷ 114 ∷ 115 ∷ 116 ∷ 32 ∷ 115 ∷ 116 ∷ 111 ∷ 114 ∷ 101 ∷ 100 ∷ 32 ∷ 100 ∷ 101 ∷ 102 ∷ 97 ∷ 117 ∷ 108 ∷ 116 ∷ 115 ∷ 32 ∷ 98 ∷ 121 ∷ 116 ∷ 101 ∷ 115
+    ∷ 10
+    ∷ 48 ∷ 32 ∷ 48 ∷ 32 ∷ 48 ∷ 32 ∷ 49 ∷ 50 ∷ 32 ∷ 48 ∷ 32 ∷ 51 ∷ 53 ∷ 50 ∷ 10
+    ∷ 49 ∷ 32 ∷ 49 ∷ 32 ∷ 49 ∷ 32 ∷ 55 ∷ 32 ∷ 50 ∷ 32 ∷ 51 ∷ 51 ∷ 50 ∷ 10
+    ∷ 50 ∷ 32 ∷ 49 ∷ 32 ∷ 49 ∷ 32 ∷ 53 ∷ 32 ∷ 51 ∷ 32 ∷ 51 ∷ 50 ∷ 52 ∷ 10
+    ∷ 51 ∷ 32 ∷ 49 ∷ 32 ∷ 49 ∷ 32 ∷ 53 ∷ 32 ∷ 51 ∷ 32 ∷ 51 ∷ 50 ∷ 52 ∷ 10
+    ∷ []
+
 -- The starred cases in the paper's order; 65535 is no default, and a room is 255 where it is not written.
 abbrev pub starred : List Case
 starred =
@@ -152,4 +169,10 @@ requested =
     ∷ (built (compact eight 3 0 (room 424)), 0 ∷ 424 ∷ 24 ∷ 0 ∷ 0 ∷ 65535 ∷ 65535 ∷ 65535 ∷ 65535 ∷ 65535 ∷ 65535 ∷ 65535 ∷ 65535 ∷ [])
     ∷ (levelled seven, 0 ∷ 1 ∷ 1 ∷ 2 ∷ 2 ∷ 2 ∷ 65535 ∷ [])
     ∷ (built (compact seven 3 0 (room 370)), 0 ∷ 370 ∷ 12 ∷ 2 ∷ 2 ∷ 65535 ∷ 0 ∷ 65535 ∷ 1 ∷ 0 ∷ 0 ∷ 65535 ∷ [])
+    ∷ (boundsText T, linesOfT)
+    ∷ (boundsText [], 114 ∷ 101 ∷ 102 ∷ 117 ∷ 115 ∷ 101 ∷ 100 ∷ 32 ∷ 49 ∷ 10 ∷ [])
+    ∷ (found (look (imageView T2) 1 2) ++ found (look (imageView T2) 3 2), 2 ∷ 0 ∷ 1 ∷ 0 ∷ 1 ∷ 0 ∷ [])
+    ∷ (servedText (T2 ++ aabbb), 48 ∷ 32 ∷ 51 ∷ 32 ∷ 49 ∷ 10 ∷ 49 ∷ 32 ∷ 49 ∷ 32 ∷ 50 ∷ 10 ∷ 50 ∷ 32 ∷ 49 ∷ 32 ∷ 49 ∷ 10 ∷ 51 ∷ 32 ∷ 48 ∷ 32 ∷ 49 ∷ 10 ∷ [])
+    ∷ (servedText T2, 48 ∷ 32 ∷ 48 ∷ 32 ∷ 48 ∷ 10 ∷ 49 ∷ 32 ∷ 48 ∷ 32 ∷ 48 ∷ 10 ∷ 50 ∷ 32 ∷ 48 ∷ 32 ∷ 48 ∷ 10 ∷ 51 ∷ 32 ∷ 48 ∷ 32 ∷ 48 ∷ 10 ∷ [])
+    ∷ (servedText (take 323 T2), 114 ∷ 101 ∷ 102 ∷ 117 ∷ 115 ∷ 101 ∷ 100 ∷ 32 ∷ 51 ∷ 10 ∷ [])
     ∷ []

@@ -16,6 +16,8 @@ pub mod Scan
 pub mod Walk
 pub mod Reached
 pub mod Operations
+pub mod Text
+pub mod Programs
 pub mod Promises
 pub mod Sentences
 pub mod Follows

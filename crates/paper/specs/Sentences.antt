@@ -81,21 +81,20 @@ module _ (v : View) where
     pub none-longer : (s l : ℕ) → s < v .states → Ends s l → l ≤ depth
     pub one-so-long : Some (v .states) (λ s. Ends s depth)
 
-  -- The chain of a state gives a target for a class after so many hops: the state so many steps on stores it, and none before stores the class.
-  pub record Serves (s c hops target : ℕ) : Type 0 where
-    pub server : ℕ
+  -- On the chain of a state a server gives a target for a class after so many hops: it is the state so many steps on and stores the target, and none before it stores the class.
+  pub record Serves (s c server hops target : ℕ) : Type 0 where
     pub reached : steps v hops s ≡ some server
     pub stores : stored v server c ≡ some target
     pub passed : (i x : ℕ) → i < hops → steps v i s ≡ some x → stored v x c ≡ none
 
   -- The number is that of the largest hops over all states and all 256 bytes: none costs more, and one costs so many.
   pub record LargestHops (classOf : ℕ → ℕ) (worst : ℕ) : Type 0 where
-    pub none-more : (s x hops target : ℕ) → s < v .states → x < 256 → Serves s (classOf x) hops target → hops ≤ worst
-    pub one-so-many : Some (v .states) (λ s. Some 256 (λ x. (target : ℕ) × Serves s (classOf x) worst target))
+    pub none-more : (s x server hops target : ℕ) → s < v .states → x < 256 → Serves s (classOf x) server hops target → hops ≤ worst
+    pub one-so-many : Some (v .states) (λ s. Some 256 (λ x. (server : ℕ) × (target : ℕ) × Serves s (classOf x) server worst target))
 
   -- An entry is equal to what its state's default's chain gives for its class.
   abbrev pub EntryNeedless : ℕ → ℕ → Type 0
-  EntryNeedless s j = (d : ℕ) × (v .default s ≡ some d) × ((hops : ℕ) × Serves d (v .entryClass s j) hops (v .entryNext s j))
+  EntryNeedless s j = (d : ℕ) × (v .default s ≡ some d) × ((server : ℕ) × (hops : ℕ) × Serves d (v .entryClass s j) server hops (v .entryNext s j))
 
   -- The grounds 8 to 13.
   unfoldable pub viewSentences : (ℕ → ℕ) → ℕ → ℕ → ℕ → List Sentence

@@ -40,7 +40,7 @@ module _ {v : View} {n : ℕ} {def own to hop : List ℕ} (F : Falls v n def) (r
     where
       go : (o : Option ℕ) → defaultFrom (getD def s 0) ≡ o → leadsTo to o t ≡ defaultGives v o c t
       go none q = refl
-      go (some d) q = sym (ap (λ (f : Option Found). gives f t) (R .finds v c F S d (range-inside n def range s d h q)))
+      go (some d) q = sym (ap (λ (f : Option Found). gives f t) (R .finds v c F S d (range-inside n def range s d h q) .1))
 
   -- So it is with the state's own target.
   repeats-needless : (s : ℕ) → s < n → repeats def own to s ≡ needlessFor v c s

@@ -36,7 +36,7 @@ worst-classes v n k classOf counted C = omega (arith, below, above)
 module _ {v : View} {n : ℕ} {def own to hop : List ℕ} (F : Falls v n def) (c : ℕ) (S : Stores v c n own) (R : Resolves n def own to hop) where
   -- The largest of the hops that are kept for a class.
   farthest-kept : largest n (λ s. getD hop s 0) ≡ farthest v n c
-  farthest-kept = largest-same n (λ s. getD hop s 0) (λ s. look v s c .hops) (λ s h. sym (ap hopsOf (R .finds v c F S s h)))
+  farthest-kept = largest-same n (λ s. getD hop s 0) (λ s. look v s c .hops) (λ s h. sym (ap hopsOf (R .finds v c F S s h .1)))
 
   -- One class more.
   pub farthest-more : (worst more : ℕ) → worst ≡ largest c (farthest v n) → more ≡ max worst (largest n (λ s. getD hop s 0)) → more ≡ largest (c + 1) (farthest v n)

@@ -59,7 +59,7 @@ module _ {t : List ℕ} {n k : ℕ} {def order : List ℕ} (O : Ordered t n k de
   unfolding mostHops
   swept own to hop least r owns R e =
       let v = listView t def in
-      let w = largest-same n (λ s. getD hop s 0) (λ s. look v s c .hops) (λ s h. sym (ap hopsOf (R .finds v c falls (stores own owns) s h))) in
+      let w = largest-same n (λ s. getD hop s 0) (λ s. look v s c .hops) (λ s h. sym (ap hopsOf (R .finds v c falls (stores own owns) s h .1))) in
       omega (arith, e, w, ap (λ (m : ℕ). largest m (λ s. look v s c .hops)) (O .states-are))
 
 -- The worst is the most hops over the classes.

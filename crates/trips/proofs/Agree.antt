@@ -57,10 +57,10 @@ module _ (v w : View) (S : Agree v w) where
     look-same c zero s h = refl
     look-same c (suc left) s h =
         go (stored v s c) (v .default s) refl (look-same c left)
-        ∙ ap₂ (λ (o p : Option ℕ). served o p (λ d. lookUp w left d c)) (stored-same s c h) (S .default-same s h)
+        ∙ ap₂ (λ (o p : Option ℕ). served s o p (λ d. lookUp w left d c)) (stored-same s c h) (S .default-same s h)
       where
         go : (o p : Option ℕ) → v .default s ≡ p → ((d : ℕ) → d < v .states → lookUp v left d c ≡ lookUp w left d c)
-            → served o p (λ d. lookUp v left d c) ≡ served o p (λ d. lookUp w left d c)
+            → served s o p (λ d. lookUp v left d c) ≡ served s o p (λ d. lookUp w left d c)
         go (some t) p q ih = refl
         go none none q ih = refl
         go none (some d) q ih = ap further (ih d (inside s d h q))

@@ -13,7 +13,7 @@ use Rattle.facts.proofs.Finds.{found}
 
 -- The next state of what was found, 0 where nothing was.
 abbrev pub targetOf : Option Found → ℕ
-targetOf o = or o (here 0) .target
+targetOf o = or o (here 0 0) .target
 
 module _ (v : View) where
   -- Where a state goes on a class.
@@ -23,7 +23,7 @@ module _ (v : View) where
 module _ (v : View) (A : Sound v) where
   -- A state goes to what it stores.
   pub goes-own : (s c x : ℕ) → s < v .states → stored v s c ≡ some x → goes v s c ≡ x
-  goes-own s c x hs q = ap targetOf (serves-look v c (v .states) s 0 x (serves-own v c s x q) (omega arith))
+  goes-own s c x hs q = ap targetOf (serves-look v c (v .states) s s 0 x (serves-own v c s x q) (omega arith))
 
   -- It goes from the class of an entry to the entry's next state.
   pub entry-goes : (s j : ℕ) → s < v .states → j < v .count s → goes v s (v .entryClass s j) ≡ v .entryNext s j
@@ -34,13 +34,13 @@ module _ (v : View) (A : Sound v) where
   goes-on s c d hs hc q f =
       let (r, e) = found v A d c (A .inside s d hs f) hc in
       let (l, el) = A .ends s hs in
-      let S = serves-on v c s d (r .hops) (r .target) q f (look-serves v c (v .states) d r e) in
-      ap targetOf (serves-find v c s l (suc (r .hops)) (r .target) el (chain-short v (v .states) s l el) S) ∙ sym (ap targetOf e)
+      let S = serves-on v c s d (r .server) (r .hops) (r .target) q f (look-serves v c (v .states) d r e) in
+      ap targetOf (serves-find v c s l (r .server) (suc (r .hops)) (r .target) el (chain-short v (v .states) s l el) S) ∙ sym (ap targetOf e)
 
   -- It goes to a state below n.
   pub goes-below : (s c : ℕ) → s < v .states → c < v .classes → goes v s c < v .states
   goes-below s c hs hc =
       let (r, e) = found v A s c hs hc in
       let S = look-serves v c (v .states) s r e in
-      let (j, hj, _, en) = stored-entry v (S .server) c (r .target) (S .stores) in
-      omega (arith, ap targetOf e, A .next-below (S .server) j (steps-inside v (A .inside) (r .hops) s (S .server) hs (S .reached)) hj)
+      let (j, hj, _, en) = stored-entry v (r .server) c (r .target) (S .stores) in
+      omega (arith, ap targetOf e, A .next-below (r .server) j (steps-inside v (A .inside) (r .hops) s (r .server) hs (S .reached)) hj)

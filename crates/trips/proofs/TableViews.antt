@@ -13,6 +13,7 @@ use Rattle.paper.specs.Results.{differs, entriesOf, tableView}
 use Rattle.paper.proofs.Tests.{none≢some}
 use Rattle.paper.proofs.Chain.{longer-some}
 use Rattle.paper.proofs.Entries.{stored-entry, entry-stored}
+use Rattle.paper.proofs.Look.{farther}
 use Rattle.trips.proofs.Picked.{Picked, picked}
 
 module _ (t : List ℕ) (default : ℕ → Option ℕ) where
@@ -57,16 +58,16 @@ module _ (t : List ℕ) (default : ℕ → Option ℕ) where
     where
       -- What the look-up finds at a state with this default.
       Given : Option ℕ → Type 0
-      Given o = (r : Found) × (served (when (differs t default s c o) (table.next t s c)) o (λ d. lookUp v left d c) ≡ some r) × (r .target ≡ table.next t s c)
+      Given o = (r : Found) × (served s (when (differs t default s c o) (table.next t s c)) o (λ d. lookUp v left d c) ≡ some r) × (r .target ≡ table.next t s c)
 
       go : (o : Option ℕ) → chained o (λ d. chain v left d) ≡ some l
           → ((d l : ℕ) → chain v left d ≡ some l → (r : Found) × (lookUp v left d c ≡ some r) × (r .target ≡ table.next t d c)) → Given o
-      go none e ih = (here (table.next t s c), refl, refl)
+      go none e ih = (here s (table.next t s c), refl, refl)
       go (some d) e ih = at (eqb (table.next t s c) (table.next t d c)) refl
         where
           at : (b : Bool) → eqb (table.next t s c) (table.next t d c) ≡ b → Given (some d)
-          at false q = rw q (here (table.next t s c), refl, refl)
+          at false q = rw q (here s (table.next t s c), refl, refl)
           at true q =
               let (m, w, _) = longer-some (chain v left d) l e in
               let (r, u, x) = ih d m w in
-              (record { target = r .target; hops = suc (r .hops) }, rw q (ap further u), x ∙ sym (eqb-true (table.next t s c) (table.next t d c) q))
+              (farther r, rw q (ap further u), x ∙ sym (eqb-true (table.next t s c) (table.next t d c) q))

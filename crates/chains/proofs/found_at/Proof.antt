@@ -4,7 +4,7 @@ use Prim.Native.Nat.{ℕ}
 use mathlib.Core.Path.{ap}
 use native.Mathlib.Omega.{arith}
 use lib.ListN.{getD}
-use Rattle.chains.proofs.Sweeps.{found-own, found-on}
+use Rattle.chains.proofs.Sweeps.{reckoned-own, reckoned-on}
 use borrow.Author.Needs.{needs}
 use Rattle.chains.proofs.found_at.Statement.{statement}
 use Rattle.chains.proofs.found_at.Tie as tie
@@ -16,7 +16,7 @@ element-copy-out-t : tie.Need-element-copy-out-t
 element-copy-out-t c = search needs
 
 returns : tie.Need-returns
-returns c = found-own _ _ _ (c .if1 .taken)
+returns c = reckoned-own _ _ _ (c .if1 .taken)
 
 mul-wide : tie.Need-mul-wide
 mul-wide c = search needs
@@ -49,7 +49,7 @@ returns-2 : tie.Need-returns-2
 returns-2 c =
     let start = c .before .before .before .before .before .before in
     let h = c .before .before .before .before .if1 .left in
-    found-on _ _ _ (now (start .args .to)) (now (start .args .hop)) h (start .pre .1 h .0) (c .before .before .wide .ensures)
+    reckoned-on _ _ _ (now (start .args .to)) (now (start .args .hop)) h (start .pre .1 h .0) (c .before .before .wide .ensures)
 
 pub found-at-spec : {M : Type 1} → statement M
 found-at-spec =

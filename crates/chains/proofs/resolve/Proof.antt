@@ -4,14 +4,14 @@ use Prim.Native.Nat.{_-_, _≤_}
 use mathlib.Core.Path.{_≡_, _∙_}
 use native.Mathlib.Omega.{arith}
 use lib.ListN.{length, length-set}
-use Rattle.chains.specs.Sweeps.{foundAt}
+use Rattle.chains.specs.Sweeps.{keptAt}
 use Rattle.chains.proofs.Done.{Done}
 use Rattle.chains.proofs.Sweeps.{ServedWithin, served-fits, served-more, served-all}
 use Rattle.chains.proofs.resolve.Statement.{statement}
 use Rattle.chains.proofs.resolve.Tie as tie
 
 abbrev Inv-loop : tie.InvT-loop
-Inv-loop def order n own to₀ hop₀ i₀ to hop i = (i ≤ n) × (length to ≡ 512) × (length hop ≡ 512) × Done (ServedWithin n def own i) order (foundAt to hop) i
+Inv-loop def order n own to₀ hop₀ i₀ to hop i = (i ≤ n) × (length to ≡ 512) × (length hop ≡ 512) × Done (ServedWithin n def own i) order (keptAt to hop) i
 
 abbrev μ-loop : tie.MeasureT-loop
 μ-loop def order n own to₀ hop₀ i₀ to hop i = n - i

@@ -1,0 +1,3 @@
+pub mod Cut
+pub mod Accepted
+pub mod Columns
