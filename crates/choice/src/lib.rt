@@ -11,9 +11,9 @@ pub fn defaults_of(t: &[u8], n: usize, k: usize, order: u8, bound: u16) -> [u16;
     ensures { λ r. ⌜ Chosen n (defaults (now (t .entry)) order bound) r ⌝ }
 {
     let mut weighed = [0u8; 262144];
-    weights::weigh_all(t, n, k, &mut weighed);
+    let seen = weights::weigh_all(t, n, k, &mut weighed);
     if order == 3 {
         return toward::defaults_of(t, n, k, &weighed);
     }
-    forest::defaults_of(&weighed, n, k, order, bound)
+    forest::defaults_of(&weighed, &seen, n, k, order, bound)
 }

@@ -1,6 +1,8 @@
 // The bounded forest by the weights of pairs, and the defaults that it gives.
 ghost use mathlib.Core.Path.{_≡_};
-ghost use Prim.Native.Nat.{_≤_, _<_};
+ghost use Prim.Native.Nat.{_*_, _≤_, _<_};
+ghost use Rattle.weights.specs.Weighed.{weightIn};
+ghost use Rattle.weights.specs.Named.{Named};
 ghost use Rattle.joining.specs.Filled.{Replaced};
 ghost use Rattle.joining.specs.Rooted.{Low};
 ghost use Rattle.forest.specs.Single.{Own, Single};
@@ -115,11 +117,26 @@ fn pointers(parent: [u16; 512], n: usize) -> [u16; 512]
     chosen
 }
 
-// The defaults toward the roots of the forest in one of the orders 0, 1 and 2 with this path bound, by the weights of a table of n states and k classes: for each state its default, or 65535 for none.
-pub fn defaults_of(weights: &[u8; 262144], n: usize, k: usize, order: u8, bound: u16) -> [u16; 512]
-    requires { ⌜ (n ≤ 512) × (0 < k) × (k ≤ 256) ⌝ }
+// The defaults toward the roots of the forest in one of the orders 0, 1 and 2 with this path bound, by the weights of a table of n states and k classes and which there are: for each state its default, or 65535 for none.
+pub fn defaults_of(
+    weights: &[u8; 262144],
+    seen: &[u8; 256],
+    n: usize,
+    k: usize,
+    order: u8,
+    bound: u16,
+) -> [u16; 512]
+    requires { ⌜ (n ≤ 512) × (0 < k) × (k ≤ 256) × Named (weightIn (now weights)) n (n * 512) (now seen) ⌝ }
     ensures { λ r. ⌜ FindsRoots n k order bound (now (weights .entry)) r ⌝ }
 {
-    let f = greedy::take_all(single_states(), weights, n, order, bound, (k - 1) as u8);
+    let f = greedy::take_all(
+        single_states(),
+        weights,
+        seen,
+        n,
+        order,
+        bound,
+        (k - 1) as u8,
+    );
     pointers(settle(f, n), n)
 }

@@ -8,11 +8,11 @@ use Rattle.paper.specs.Forest.{Trees}
 use Rattle.trees.proofs.Best.{levelOf, level-ends}
 use Rattle.joining.specs.Held.{Whole}
 use Rattle.weights.specs.Weighed.{weightIn}
+use Rattle.weights.specs.Named.{Named}
 use Rattle.greedy.specs.Good.{Becomes, Absent}
-use Rattle.greedy.specs.Weights.{Named}
 
 -- A number that has no mark is no pair's weight.
-pub unseen-absent : (marks weights : List ℕ) (n w : ℕ) → n ≤ 512 → 0 < w → Named weights n (n * 512) marks → getD marks w 0 ≡ 0 → Absent n (weightIn weights) w
+pub unseen-absent : (marks weights : List ℕ) (n w : ℕ) → n ≤ 512 → 0 < w → Named (weightIn weights) n (n * 512) marks → getD marks w 0 ≡ 0 → Absent n (weightIn weights) w
 unseen-absent marks weights n w few some N e u v uv vn q = omega (arith, rw q at (N .stands u v uv vn (omega arith)))
 
 -- Where no pair has the weight the arrays are what they were.

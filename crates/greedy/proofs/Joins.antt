@@ -14,11 +14,12 @@ use Rattle.trees.proofs.Viable.{viable-before, rest-grows}
 use Rattle.trees.proofs.Best.{levelOf, level-joins, level-ends}
 use Rattle.trees.proofs.TreeCount.{treeCount, treeCount-some, treeCount-joined}
 use Rattle.joining.specs.Held.{Joined, Whole}
-use Rattle.greedy.specs.Good.{Good, Becomes, isTaken}
-use Rattle.greedy.specs.Keys.{keyIn}
-use Rattle.greedy.specs.Longs.{LongestIn}
-use Rattle.greedy.specs.Picked.{Found}
-use Rattle.greedy.specs.Searched.{InRows, Searched, Relaxed}
+use Rattle.best.specs.Taken.{isTaken}
+use Rattle.greedy.specs.Good.{Good, Becomes}
+use Rattle.best.specs.Keys.{keyIn}
+use Rattle.best.specs.Longs.{LongestIn}
+use Rattle.best.specs.Picked.{Found}
+use Rattle.best.specs.Searched.{InRows, Searched, Relaxed}
 use Rattle.greedy.proofs.Pair.{pair-joined}
 use Rattle.greedy.proofs.Level.{Under, viable-small, floors-held, floors-back, picked-none, picked-best}
 

@@ -2,11 +2,6 @@ pub mod Becomes
 pub mod Weights
 pub mod Pair
 pub mod Rows
-pub mod Keys
-pub mod Longs
-pub mod Picked
-pub mod Searched
-pub mod Relaxed
 pub mod Level
 pub mod Joins
 pub mod Falls

@@ -17,7 +17,8 @@ use Rattle.trees.proofs.Longest.{joinedLongest-bound}
 use Rattle.trees.proofs.Grown.{added-grown}
 use Rattle.paper.specs.BestPair.{Viable}
 use Rattle.joining.specs.Held.{Joined}
-use Rattle.greedy.specs.Good.{Good, isTaken}
+use Rattle.best.specs.Taken.{isTaken}
+use Rattle.greedy.specs.Good.{Good}
 
 -- Two numbers of which both or neither keep to D are tested alike.
 same-bound : (a b D : ℕ) → (a ≤ D) ↔ (b ≤ D) → leb a D ≡ leb b D
@@ -31,12 +32,6 @@ same-bound a b D (to, from) =
 both-tests : {A : Type 0} (a b : Bool) (x y : A) → cond a (cond b x y) y ≡ cond (a && b) x y
 both-tests true b x y = refl
 both-tests false b x y = refl
-
--- Over a pair that is taken the path is at most D.
-pub taken-short : (x w tu tv du dv D : ℕ) (b : Bool) → b ≡ isTaken x w tu tv du dv D → b ≡ true → du + dv + 1 ≤ D
-taken-short x w tu tv du dv D b e t =
-    let (same, test) = and-true (eqb x w) _ (sym e ∙ t) in
-    leb-true (du + dv + 1) D (and-true (differ tu tv) _ test .1)
 
 module _ (n D u v : ℕ) (uv : u < v) (vb : v < n) (F : Trees) (far parent tree : List ℕ) (G : Good n D F far parent tree) where
   -- The test of different trees and of the joined tree's longest path, by the arrays.

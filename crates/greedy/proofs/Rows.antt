@@ -14,7 +14,8 @@ use Rattle.paper.specs.Levels.{row, rows}
 use Rattle.paper.proofs.Levels.{level}
 use Rattle.trees.proofs.Best.{levelOf}
 use Rattle.joining.specs.Held.{Joined, Whole}
-use Rattle.greedy.specs.Good.{Becomes, isTaken}
+use Rattle.best.specs.Taken.{isTaken}
+use Rattle.greedy.specs.Good.{Becomes}
 use Rattle.greedy.proofs.Becomes.{becomes-same, becomes-then}
 use Rattle.greedy.proofs.Weights.{Passed}
 use Rattle.greedy.proofs.Pair.{pair-dropped, pair-added}

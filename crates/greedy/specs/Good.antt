@@ -1,10 +1,7 @@
 -- Trees within the bound, held in arrays, and what the pairs taken make of them.
 use mathlib.Core.Path.{_≡_}
-use mathlib.Core.Bool.{Bool, _&&_}
 use mathlib.Core.List.{List}
-use Prim.Native.Nat.{ℕ, _+_, _<_}
-use lib.Dec.{leb, eqb}
-use Rattle.paper.specs.Below.{differ}
+use Prim.Native.Nat.{ℕ, _<_}
 use Rattle.paper.specs.Forest.{Trees}
 use Rattle.trees.proofs.Grown.{Grown}
 use Rattle.joining.specs.Held.{Held, Whole}
@@ -18,10 +15,6 @@ pub record Good (n D : ℕ) (F : Trees) (far parent tree : List ℕ) : Type 0 wh
 pub record Becomes (n D : ℕ) (made : Trees → Trees) (far₀ parent₀ tree₀ far parent tree : List ℕ) : Type 0 where
   pub whole : Whole far parent tree
   pub good : (F : Trees) → Good n D F far₀ parent₀ tree₀ → Good n D (made F) far parent tree
-
--- A pair of weight x is added among those of weight w: its ends lie in different trees, and the path over it is at most D.
-abbrev pub isTaken : ℕ → ℕ → ℕ → ℕ → ℕ → ℕ → ℕ → Bool
-isTaken x w tu tv du dv D = eqb x w && (differ tu tv && leb (du + dv + 1) D)
 
 -- No pair has the weight w.
 abbrev pub Absent : ℕ → (ℕ → ℕ → ℕ) → ℕ → Type 0

@@ -1,6 +1,2 @@
 pub mod Good
-pub mod Keys
-pub mod Longs
-pub mod Picked
-pub mod Searched
 pub mod Weights

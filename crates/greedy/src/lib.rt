@@ -5,24 +5,10 @@ ghost use Rattle.paper.specs.Forest.{rest, falling};
 ghost use Rattle.trees.proofs.Best.{levelOf};
 ghost use Rattle.joining.specs.Rooted.{Low};
 ghost use Rattle.weights.specs.Weighed.{weightIn};
-ghost use Rattle.greedy.specs.Good.{Becomes, isTaken};
-ghost use Rattle.greedy.specs.Weights.{Next, Named};
+ghost use Rattle.weights.specs.Named.{Named};
+ghost use Rattle.greedy.specs.Good.{Becomes};
+ghost use Rattle.greedy.specs.Weights.{Next};
 use joining::Forest;
-
-mod best;
-
-// Whether a pair of weight x is added among those of weight w: its ends lie in different trees, and the path over it is at most the bound.
-fn takes(x: u8, w: u8, tu: u16, tv: u16, du: u16, dv: u16, bound: u16) -> bool
-    ensures { λ r. ⌜ r ≡ isTaken x w tu tv du dv bound ⌝ }
-{
-    if x != w {
-        return false;
-    }
-    if tu == tv {
-        return false;
-    }
-    du as u32 + dv as u32 + 1 <= bound as u32
-}
 
 // The first state from `from` on whose pair with u has weight w, n where there is none.
 fn next_of(weights: &[u8; 262144], n: usize, u: usize, from: usize, w: u8) -> usize
@@ -48,7 +34,7 @@ fn take_level(f0: Forest, weights: &[u8; 262144], n: usize, bound: u16, w: u8) -
     for u in 0..n {
         let mut v = next_of(weights, n, u, u + 1, w);
         while v < n {
-            if takes(w, w, f.tree[u], f.tree[v], f.d[u], f.d[v], bound) {
+            if best::takes(w, w, f.tree[u], f.tree[v], f.d[u], f.d[v], bound) {
                 f = joining::join(f, n, u, v);
             }
             v = next_of(weights, n, u, v + 1, w);
@@ -80,21 +66,6 @@ fn take_best(f0: Forest, weights: &[u8; 262144], n: usize, order: u8, bound: u16
     f
 }
 
-// Which weights the pairs of n states have: each stands at its own place, and 0 or its own number at every other.
-fn weights_seen(weights: &[u8; 262144], n: usize) -> [u8; 256]
-    requires { ⌜ n ≤ 512 ⌝ }
-    ensures { λ r. ⌜ Named (now (weights .entry)) n (n * 512) r ⌝ }
-{
-    let mut seen = [0u8; 256];
-    for u in 0..n {
-        for v in u + 1..n {
-            let w = weights[u * 512 + v];
-            seen[words::wide(w) as usize] = w;
-        }
-    }
-    seen
-}
-
 // All pairs of weight w in an order.
 fn take_weight(f: Forest, weights: &[u8; 262144], n: usize, order: u8, bound: u16, w: u8) -> Forest
     requires { ⌜ (n ≤ 512) × Low (f .parent) ⌝ }
@@ -106,19 +77,19 @@ fn take_weight(f: Forest, weights: &[u8; 262144], n: usize, order: u8, bound: u1
     take_best(f, weights, n, order, bound, w)
 }
 
-// All pairs in an order by falling weight, from `top` down to 1; a weight that no pair has is passed over.
+// All pairs in an order by falling weight, from `top` down to 1; a weight that no pair has, by what was seen, is passed over.
 pub fn take_all(
     f0: Forest,
     weights: &[u8; 262144],
+    seen: &[u8; 256],
     n: usize,
     order: u8,
     bound: u16,
     top: u8,
 ) -> Forest
-    requires { ⌜ (n ≤ 512) × Low (f0 .parent) ⌝ }
+    requires { ⌜ (n ≤ 512) × Low (f0 .parent) × Named (weightIn (now weights)) n (n * 512) (now seen) ⌝ }
     ensures { λ r. ⌜ Becomes n bound (falling n (rest order n) bound (weightIn (now (weights .entry))) top) (f0 .d) (f0 .parent) (f0 .tree) (r .d) (r .parent) (r .tree) ⌝ }
 {
-    let seen = weights_seen(weights, n);
     let mut f = f0;
     let mut at = words::wide(top) as usize;
     while 0 < at {

@@ -1,2 +1,3 @@
 pub mod Weighed
+pub mod Named
 pub mod Chosen

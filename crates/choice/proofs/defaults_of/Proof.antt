@@ -25,7 +25,7 @@ defaults-of-requires : tie.Need-defaults-of-requires
 defaults-of-requires c κs =
     let weighed = c .before .before in
     let p = begun weighed .pre in
-    (p .0, p .1, p .2, weighed .weigh-all .ensures)
+    (p .0, p .1, p .2, weighed .weigh-all .ensures .0)
 
 returns : tie.Need-returns
 returns c =
@@ -35,17 +35,18 @@ returns c =
 
 defaults-of-requires-2 : tie.Need-defaults-of-requires-2
 defaults-of-requires-2 c κs =
-    let p = begun (c .before .before) .pre in
-    (omega (arith, p .0 .few-states), omega (arith, p .0 .some-classes), omega (arith, p .0 .few-classes))
+    let weighed = c .before .before .before in
+    let p = begun weighed .pre in
+    (omega (arith, p .0 .few-states), omega (arith, p .0 .some-classes), omega (arith, p .0 .few-classes), weighed .weigh-all .ensures .1)
 
 returns-2 : tie.Need-returns-2
 returns-2 c =
-    let other = c .before .before in
+    let other = c .before .before .before in
     let weighed = other .before in
     let a = begun weighed .args in
     let p = begun weighed .pre in
     subst (λ (f : ℕ → Option ℕ). Chosen (a .n) f (c .defaults-of2 .result)) (sym (defaults-forest (now (a .t)) (a .order) (a .bound) (other .if1 .left)))
-    (c .defaults-of2 .ensures (now (a .t)) (p .1) (p .2) (weighed .weigh-all .ensures))
+    (c .defaults-of2 .ensures (now (a .t)) (p .1) (p .2) (weighed .weigh-all .ensures .0))
 
 pub defaults-of-spec : {M : Type 1} → statement M
 defaults-of-spec = tie.close (tie.spec weigh-all-requires defaults-of-requires returns defaults-of-requires-2 returns-2)

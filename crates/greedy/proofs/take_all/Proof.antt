@@ -14,14 +14,11 @@ use Rattle.greedy.proofs.take_all.Statement.{statement}
 use Rattle.greedy.proofs.take_all.Tie as tie
 
 abbrev Inv-loop : tie.InvT-loop
-Inv-loop weights n order bound top seen f₀ at₀ f at =
+Inv-loop weights seen n order bound top f₀ at₀ f at =
     (at ≤ 255) × Falls n (rest order n) bound (weightIn weights) top at (f₀ .d) (f₀ .parent) (f₀ .tree) (f .d) (f .parent) (f .tree)
 
 abbrev μ-loop : tie.MeasureT-loop
-μ-loop weights n order bound top seen f₀ at₀ f at = at
-
-weights-seen-requires : tie.Need-weights-seen-requires Inv-loop μ-loop
-weights-seen-requires c κs = c .pre .0
+μ-loop weights seen n order bound top f₀ at₀ f at = at
 
 wide-requires : tie.Need-wide-requires Inv-loop μ-loop
 wide-requires c κs = tt
@@ -31,52 +28,52 @@ cast-at c = omega (arith, c .wide .ensures .1)
 
 loop-holds : tie.Need-loop-holds Inv-loop μ-loop
 loop-holds c =
-    let s = c .before .before in
+    let s = c .before in
     let a = s .args in (
       omega (arith, c .wide .ensures .1),
       rw (c .wide .ensures .0) (falls-start (a .n) (rest (a .order) (a .n)) (a .bound) (weightIn (now (a .weights))) (a .top) (a .f0 .d) (a .f0 .parent) (a .f0 .tree)
           (record { low = s .pre .1; long-far = search needs; long-tree = search needs })),
     )
 
-array-read-w : tie.Need-array-read-w Inv-loop μ-loop
-array-read-w c = omega (arith, c .before .loop .inv .0)
+element-copy-out-w : tie.Need-element-copy-out-w Inv-loop μ-loop
+element-copy-out-w c = omega (arith, c .before .loop .inv .0)
 
 take-weight-requires : tie.Need-take-weight-requires Inv-loop μ-loop
 take-weight-requires c κs =
-    let l = c .before .before in
-    (l .before .before .before .pre .0, l .loop .inv .1 .becomes .whole .low)
+    let l = c .before .before .before in
+    (l .before .before .pre .0, l .loop .inv .1 .becomes .whole .low)
 
 sub-at : tie.Need-sub-at Inv-loop μ-loop
-sub-at c = omega (arith, c .before .loop-test .taken)
+sub-at c = omega (arith, c .before .before .loop-test .taken)
 
 loop-less : tie.Need-loop-less Inv-loop μ-loop
-loop-less c = omega (arith, c .before .loop-test .taken)
+loop-less c = omega (arith, c .before .before .loop-test .taken)
 
 loop-again : tie.Need-loop-again Inv-loop μ-loop
 loop-again c =
-    let l = c .before .before in
-    let s = l .before .before .before in
+    let l = c .before .before .before in
+    let s = l .before .before in
     let a = s .args in
     let f = l .loop .f in
     let at = l .loop .at in
-    let some = c .before .loop-test .taken in
-    let seen = l .before .before .weights-seen in
+    let some = c .before .before .loop-test .taken in
+    let named = s .pre .2 in
     let small : at ≤ 255 = l .loop .inv .0 in
     let more = falls-more (a .n) (rest (a .order) (a .n)) (a .bound) (weightIn (now (a .weights))) (a .top) at (a .f0 .d) (a .f0 .parent) (a .f0 .tree) (f .d) (f .parent) (f .tree) (l .loop .inv .1) some in
     let held : Forest → Type 0 = λ (g : Forest). Falls (a .n) (rest (a .order) (a .n)) (a .bound) (weightIn (now (a .weights))) (a .top) (at - 1) (a .f0 .d) (a .f0 .parent) (a .f0 .tree) (g .d) (g .parent) (g .tree) in (
       omega arith,
       ⊎-elim
           (λ w. subst held (sym (w .2)) (more (w .1 .result .d) (w .1 .result .parent) (w .1 .result .tree)
-          (rw (seen .ensures .own at (omega arith) (w .0 .taken)) at (w .1 .ensures))))
+          (rw (named .own at (omega arith) (w .0 .taken)) at (w .1 .ensures))))
           (λ w. subst held (sym (w .1)) (more (f .d) (f .parent) (f .tree)
           (becomes-absent (a .n) (rest (a .order) (a .n)) (a .bound) (weightIn (now (a .weights))) at
-          (unseen-absent (seen .result) (now (a .weights)) (a .n) at (s .pre .0) some (seen .ensures) (w .0 .left)) (f .d) (f .parent) (f .tree) (l .loop .inv .1 .becomes .whole))))
+          (unseen-absent (now (a .seen)) (now (a .weights)) (a .n) at (s .pre .0) some named (w .0 .left)) (f .d) (f .parent) (f .tree) (l .loop .inv .1 .becomes .whole))))
           (c .if1 .came),
     )
 
 returns : tie.Need-returns Inv-loop μ-loop
 returns c =
-    let a = c .before .before .before .before .args in
+    let a = c .before .before .before .args in
     let l = c .before .loop in
     falls-end (a .n) (rest (a .order) (a .n)) (a .bound) (weightIn (now (a .weights))) (a .top) (l .at) (a .f0 .d) (a .f0 .parent) (a .f0 .tree) (l .f .d) (l .f .parent) (l .f .tree)
     (l .inv .1) (omega arith)
@@ -87,11 +84,10 @@ take-all-spec =
     (tie.spec
     Inv-loop
     μ-loop
-    weights-seen-requires
     wide-requires
     cast-at
     loop-holds
-    array-read-w
+    element-copy-out-w
     take-weight-requires
     sub-at
     loop-less

@@ -73,17 +73,21 @@ counted c =
     let e : c .before .loop .c ≡ classes (now (s .args .t)) = omega (arith, s .pre .0 .classes-are) in
     ap (λ (x : ℕ). x - 1) (rw e at (c .before .loop .inv .2))
 
-returns : tie.Need-returns Inv-loop μ-loop
-returns c = let e : _≡_ {A = ℕ} 0 (c .before .before .loop .same - 1) = omega arith in e ∙ counted (c .before)
+sub-same : tie.Need-sub-same Inv-loop μ-loop
+sub-same c = omega (arith, c .if2 .taken)
 
-sub-result : tie.Need-sub-result Inv-loop μ-loop
-sub-result c = omega arith
+-- It is one less, and 0 where there is none.
+lessened : (c : tie.Joined2 Inv-loop μ-loop) → c .if2 .same ≡ c .before .before .loop .same - 1
+lessened c = ⊎-elim (λ w. w .1) (λ w. omega (arith, w .0 .left, w .1)) (c .if2 .came)
 
 cast-result : tie.Need-cast-result Inv-loop μ-loop
-cast-result c = let p = c .before .before .before .before .pre .0 .few-classes in omega arith
+cast-result c =
+    let j = c .before in
+    let few = j .before .before .before .before .pre .0 .few-classes in
+    omega (arith, lessened j, j .before .before .loop .inv .0, j .before .before .loop .inv .1, few)
 
-returns-2 : tie.Need-returns-2 Inv-loop μ-loop
-returns-2 c = counted (c .before)
+returns : tie.Need-returns Inv-loop μ-loop
+returns c = lessened (c .before) ∙ counted (c .before .before)
 
 pub weight-of-spec : {M : Type 1} → statement M
 weight-of-spec =
@@ -98,7 +102,6 @@ weight-of-spec =
     add-c
     loop-less
     loop-again
-    returns
-    sub-result
+    sub-same
     cast-result
-    returns-2)
+    returns)

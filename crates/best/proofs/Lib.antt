@@ -1,0 +1,6 @@
+pub mod Taken
+pub mod Keys
+pub mod Longs
+pub mod Picked
+pub mod Searched
+pub mod Floors

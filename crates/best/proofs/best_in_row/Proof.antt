@@ -1,0 +1,152 @@
+-- The loop's invariant: of the pairs of the row before v the best is held.
+use Prim.Native.Nat.{ℕ, _≤_, _<_, _-_}
+use mathlib.Core.Path.{_≡_}
+use mathlib.Core.Logic.{⊎-elim}
+use native.Mathlib.Omega.{arith}
+use borrow.Author.Needs.{needs}
+use denote.Ref.{now}
+use lib.ListN.{getD}
+use Rattle.weights.specs.Weighed.{weightIn}
+use Rattle.best.specs.Keys.{fitsIn, keyIn}
+use Rattle.best.specs.Picked.{InRow, Picked}
+use Rattle.best.proofs.Keys.{key-small}
+use Rattle.best.proofs.Taken.{taken-short}
+use Rattle.best.proofs.Picked.{picked-starts, picked-unfit, picked-worse, picked-better}
+use Rattle.best.proofs.best_in_row.Statement.{statement}
+use Rattle.best.proofs.best_in_row.Tie as tie
+
+abbrev Inv-loop : tie.InvT-loop
+Inv-loop d tree long weights n order bound w u best₀ tu du lu v₀ best v =
+    (u < v) × (v ≤ n) × Picked n (fitsIn weights w d tree bound) (keyIn order d long) (InRow u v) (best .key) (best .u) (best .v)
+
+abbrev μ-loop : tie.MeasureT-loop
+μ-loop d tree long weights n order bound w u best₀ tu du lu v₀ best v = n - v
+
+mul-tu : tie.Need-mul-tu Inv-loop μ-loop
+mul-tu c = omega arith
+
+element-copy-out-tu : tie.Need-element-copy-out-tu Inv-loop μ-loop
+element-copy-out-tu c = omega arith
+
+mul-du : tie.Need-mul-du Inv-loop μ-loop
+mul-du c = omega arith
+
+element-copy-out-du : tie.Need-element-copy-out-du Inv-loop μ-loop
+element-copy-out-du c = omega arith
+
+mul-lu : tie.Need-mul-lu Inv-loop μ-loop
+mul-lu c = omega arith
+
+element-copy-out-lu : tie.Need-element-copy-out-lu Inv-loop μ-loop
+element-copy-out-lu c = omega arith
+
+add-v : tie.Need-add-v Inv-loop μ-loop
+add-v c = omega arith
+
+loop-holds : tie.Need-loop-holds Inv-loop μ-loop
+loop-holds c =
+    let a = c .before .before .before .args in (
+      omega arith,
+      omega arith,
+      picked-starts (a .n) (fitsIn (now (a .weights)) (a .w) (now (a .d)) (now (a .tree)) (a .bound)) (keyIn (a .order) (now (a .d)) (now (a .long))) (a .u) 0 0,
+    )
+
+mul-dv : tie.Need-mul-dv Inv-loop μ-loop
+mul-dv c = omega arith
+
+element-copy-out-dv : tie.Need-element-copy-out-dv Inv-loop μ-loop
+element-copy-out-dv c = omega arith
+
+mul-takes : tie.Need-mul-takes Inv-loop μ-loop
+mul-takes c = omega arith
+
+add-takes : tie.Need-add-takes Inv-loop μ-loop
+add-takes c = omega arith
+
+element-copy-out-takes : tie.Need-element-copy-out-takes Inv-loop μ-loop
+element-copy-out-takes c = omega arith
+
+mul-takes-2 : tie.Need-mul-takes-2 Inv-loop μ-loop
+mul-takes-2 c = omega arith
+
+element-copy-out-takes-2 : tie.Need-element-copy-out-takes-2 Inv-loop μ-loop
+element-copy-out-takes-2 c = omega arith
+
+takes-requires : tie.Need-takes-requires Inv-loop μ-loop
+takes-requires c κs = search needs
+
+mul-key-of : tie.Need-mul-key-of Inv-loop μ-loop
+mul-key-of c = omega arith
+
+element-copy-out-key-of : tie.Need-element-copy-out-key-of Inv-loop μ-loop
+element-copy-out-key-of c = omega arith
+
+key-of-requires : tie.Need-key-of-requires Inv-loop μ-loop
+key-of-requires c κs = search needs
+
+add-v-2 : tie.Need-add-v-2 Inv-loop μ-loop
+add-v-2 c = omega arith
+
+loop-less : tie.Need-loop-less Inv-loop μ-loop
+loop-less c = omega arith
+
+loop-again : tie.Need-loop-again Inv-loop μ-loop
+loop-again c =
+    let inner = c .before .before .before .before .before in
+    let l = inner .before .loop in
+    let s = inner .before .before .before .before .before in
+    let a = s .args in
+    let fits = fitsIn (now (a .weights)) (a .w) (now (a .d)) (now (a .tree)) (a .bound) in
+    let key = keyIn (a .order) (now (a .d)) (now (a .long)) in
+    let far : ℕ → ℕ = λ x. getD (now (a .d)) x 0 in
+    let t = c .before .takes in (
+      omega arith,
+      omega arith,
+      ⊎-elim
+          (λ w. rw (w .5) (picked-better (a .n) fits key (a .u) (l .v) (l .best .key) (l .best .u) (l .best .v) (l .inv .2)
+          (l .inv .0) (inner .loop-test .taken) (t .result) (t .ensures) (w .0 .taken) (w .2 .result) (w .2 .ensures) (w .4 .taken)))
+          (⊎-elim
+          (λ w.
+          let short = taken-short (weightIn (now (a .weights)) (a .u) (l .v)) (a .w) (getD (now (a .tree)) (a .u) 0) (getD (now (a .tree)) (l .v) 0)
+          (far (a .u)) (far (l .v)) (a .bound) (t .result) (t .ensures) (w .0 .taken) in
+          let most = key-small (a .order) (far (a .u)) (far (l .v)) (getD (now (a .long)) (a .u) 0) (getD (now (a .long)) (l .v) 0) in
+          rw (w .5) (picked-worse (a .n) fits key (a .u) (l .v) (l .best .key) (l .best .u) (l .best .v) (l .inv .2)
+          (w .2 .result) (w .2 .ensures) (omega (arith, most, short, w .2 .ensures, s .fits .bound)) (w .4 .left)))
+          (λ w. rw (w .1) (picked-unfit (a .n) fits key (a .u) (l .v) (l .best .key) (l .best .u) (l .best .v) (l .inv .2) (t .result) (t .ensures) (w .0 .left))))
+          (c .if1 .came),
+    )
+
+returns : tie.Need-returns Inv-loop μ-loop
+returns c =
+    let e : c .before .loop .v ≡ c .before .before .before .before .before .args .n = omega arith in
+    rw e at (c .before .loop .inv .2)
+
+pub best-in-row-spec : {M : Type 1} → statement M
+best-in-row-spec =
+    tie.close
+    (tie.spec
+    Inv-loop
+    μ-loop
+    mul-tu
+    element-copy-out-tu
+    mul-du
+    element-copy-out-du
+    mul-lu
+    element-copy-out-lu
+    add-v
+    loop-holds
+    mul-dv
+    element-copy-out-dv
+    mul-takes
+    add-takes
+    element-copy-out-takes
+    mul-takes-2
+    element-copy-out-takes-2
+    takes-requires
+    mul-key-of
+    element-copy-out-key-of
+    key-of-requires
+    add-v-2
+    loop-less
+    loop-again
+    returns)

@@ -1,0 +1,5 @@
+pub mod Taken
+pub mod Keys
+pub mod Longs
+pub mod Picked
+pub mod Searched

@@ -1,0 +1,170 @@
+// Whether a pair can be added, and the best pair of one weight that can, in an order that goes by the distances of the moment.
+ghost use mathlib.Core.Path.{_≡_};
+ghost use Prim.Native.Nat.{_≤_, _<_};
+ghost use Rattle.best.specs.Taken.{isTaken};
+ghost use Rattle.best.specs.Keys.{keyOf, keyIn, fitsIn};
+ghost use Rattle.best.specs.Longs.{ByTree, LongestIn};
+ghost use Rattle.best.specs.Picked.{InRow, Picked};
+ghost use Rattle.best.specs.Searched.{Searched, Relaxed};
+
+// Whether a pair of weight x is added among those of weight w: its ends lie in different trees, and the path over it is at most the bound.
+pub fn takes(x: u8, w: u8, tu: u16, tv: u16, du: u16, dv: u16, bound: u16) -> bool
+    ensures { λ r. ⌜ r ≡ isTaken x w tu tv du dv bound ⌝ }
+{
+    if x != w {
+        return false;
+    }
+    if tu == tv {
+        return false;
+    }
+    du as u32 + dv as u32 + 1 <= bound as u32
+}
+
+// A pair and its key; a key of 65536 says that there is none.
+pub struct Pick {
+    pub key: u32,
+    pub u: usize,
+    pub v: usize,
+}
+
+// What a search of all rows finds: the best pair, and for each row a floor, a number that no key of its pairs is below.
+pub struct Search {
+    pub best: Pick,
+    pub low: [u32; 512],
+}
+
+// The number by which the order goes among pairs of equal weight: order 1 by the path over the pair, order 2 by what it has more than the longer of both trees' longest paths.
+fn key_of(order: u8, du: u16, dv: u16, lu: u16, lv: u16) -> u32
+    ensures { λ r. ⌜ r ≡ keyOf order du dv lu lv ⌝ }
+{
+    if order == 0 {
+        return 0;
+    }
+    let across = du as u32 + dv as u32 + 1;
+    if order == 1 {
+        return across;
+    }
+    let longest = joining::larger(lu, lv) as u32;
+    if across < longest {
+        return 0;
+    }
+    across - longest
+}
+
+// The longest path of each tree, by the tree's number: the largest distance in it.
+fn longest_by_tree(d: &[u16; 512], tree: &[u16; 512], n: usize) -> [u16; 512]
+    requires { ⌜ n ≤ 512 ⌝ }
+    ensures { λ r. ⌜ ByTree (now (d .entry)) (now (tree .entry)) n r ⌝ }
+{
+    let mut most = [0u16; 512];
+    for x in 0..n {
+        let t = tree[x];
+        if t < 512 {
+            let at = t as usize;
+            let m = joining::larger(d[x], most[at]);
+            most[at] = m;
+        }
+    }
+    most
+}
+
+// The longest path of each state's tree.
+pub fn longest_paths(d: &[u16; 512], tree: &[u16; 512], n: usize) -> [u16; 512]
+    requires { ⌜ n ≤ 512 ⌝ }
+    ensures { λ r. ⌜ LongestIn n (now (d .entry)) (now (tree .entry)) r ⌝ }
+{
+    let most = longest_by_tree(d, tree, n);
+    let mut long = [0u16; 512];
+    for x in 0..n {
+        let t = tree[x];
+        if t < 512 {
+            long[x] = most[t as usize];
+        }
+    }
+    long
+}
+
+// The best pair of weight w in row u that can be added.
+fn best_in_row(
+    d: &[u16; 512],
+    tree: &[u16; 512],
+    long: &[u16; 512],
+    weights: &[u8; 262144],
+    n: usize,
+    order: u8,
+    bound: u16,
+    w: u8,
+    u: usize,
+) -> Pick
+    requires { ⌜ (n ≤ 512) × (u < n) ⌝ }
+    ensures { λ r. ⌜ Picked n (fitsIn (now (weights .entry)) w (now (d .entry)) (now (tree .entry)) bound) (keyIn order (now (d .entry)) (now (long .entry))) (InRow u n) (r .key) (r .u) (r .v) ⌝ }
+{
+    let mut best = Pick {
+        key: 65536,
+        u: 0,
+        v: 0,
+    };
+    let tu = tree[u];
+    let du = d[u];
+    let lu = long[u];
+    for v in u + 1..n {
+        let dv = d[v];
+        if takes(weights[u * 512 + v], w, tu, tree[v], du, dv, bound) {
+            let key = key_of(order, du, dv, lu, long[v]);
+            if key < best.key {
+                best = Pick { key, u, v };
+            }
+        }
+    }
+    best
+}
+
+// The best pair of weight w that can be added. A row whose floor is not below the best key so far holds no better pair and is skipped; of each row looked at the floor is renewed.
+pub fn best_pair(
+    floors: [u32; 512],
+    d: &[u16; 512],
+    tree: &[u16; 512],
+    long: &[u16; 512],
+    weights: &[u8; 262144],
+    n: usize,
+    order: u8,
+    bound: u16,
+    w: u8,
+) -> Search
+    requires { ⌜ n ≤ 512 ⌝ }
+    ensures { λ r. ⌜ Searched n (fitsIn (now (weights .entry)) w (now (d .entry)) (now (tree .entry)) bound) (keyIn order (now (d .entry)) (now (long .entry))) n floors (r .low) (r .best .key) (r .best .u) (r .best .v) ⌝ }
+{
+    let mut low = floors;
+    let mut best = Pick {
+        key: 65536,
+        u: 0,
+        v: 0,
+    };
+    for u in 0..n {
+        if low[u] < best.key {
+            let row = best_in_row(d, tree, long, weights, n, order, bound, w, u);
+            low[u] = row.key;
+            if row.key < best.key {
+                best = row;
+            }
+        }
+    }
+    Search { best, low }
+}
+
+// The floors after a join. In orders 0 and 1 no key falls, so they stand; in order 2 a key may fall, so they are 0, save of a row that holds no pair that can be added: it never will.
+pub fn relaxed(floors: [u32; 512], n: usize, order: u8) -> [u32; 512]
+    requires { ⌜ n ≤ 512 ⌝ }
+    ensures { λ r. ⌜ Relaxed order n floors r ⌝ }
+{
+    if order < 2 {
+        return floors;
+    }
+    let mut low = floors;
+    for x in 0..n {
+        if low[x] < 65536 {
+            low[x] = 0;
+        }
+    }
+    low
+}
