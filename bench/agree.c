@@ -16,6 +16,15 @@ static void same(const char *operation, kamordast_built a, kamordast_built b, ui
     grounds[a.refused]++;
 }
 
+/* The archive's walk is C's where the table is accepted, and is refused by the judge's number where not: in C what judges and what walks are two functions. */
+static void same_walk(size_t length, uint32_t state, const uint8_t *payload, size_t bytes, size_t room_length, uint32_t number) {
+    kamordast_scanned a = kamordast_walk(table, length, state, payload, bytes, by_archive, room_length), b = {plain_judge_table(table, length), 0, 0, 0, 0};
+    if (!b.refused && state >= number16(table, 0)) b.refused = 14;
+    if (!b.refused) b = plain_walk(table, length, state, payload, bytes, by_c, room_length);
+    if (memcmp(&a, &b, sizeof a) || memcmp(by_archive, by_c, ROOM)) fail("walk", number);
+    grounds[a.refused]++;
+}
+
 /* Changes a few bytes between two places, mostly to small numbers. */
 static void damage(uint8_t *bytes, size_t from, size_t to) {
     for (uint32_t times = below(4); times; times--) bytes[from + below((uint32_t)(to - from))] = (uint8_t)(below(3) ? below(6) : below(256));
@@ -41,6 +50,9 @@ int main(void) {
         for (uint32_t order = 0; order <= 4; order++)
             same("compact", kamordast_compact_in_order(table, length, order, (uint16_t)bound, by_archive, room_length),
                  plain_compact(table, length, order, bound, number % 2, by_c, room_length), number);
+        uint8_t payload[64];
+        for (size_t i = 0; i < sizeof payload; i++) payload[i] = (uint8_t)below(256);
+        same_walk(length, below(n + 1), payload, below(65), room_length % 400, number);
         same("write", kamordast_write(table, length, list, list_length, by_archive, room_length), plain_write(table, length, list, list_length, by_c, room_length), number);
         if (built.refused) continue;
         if (below(3)) damage(image, below(8) ? 268 : 0, built.length - (below(8) ? 12 : 0));

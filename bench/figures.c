@@ -33,13 +33,15 @@ static void row(const operation *o) {
     action *const acts[] = {o->archive, o->c, o->less};
     double ms[3] = {0, 0, 0};
     timed(acts, o->less ? 3 : 2, ms);
-    /* A table is judged without a bound and without an image. */
-    const char *bound = o == &judging_a_table ? strstr(case_name, ", D") : NULL;
-    printf("%u\t%s\t%.*s", (unsigned)rows, o->name, (int)(bound ? bound - case_name : (long)sizeof case_name), case_name);
+    /* A table is judged and walked without a bound and without an image. */
+    int plain = o == &judging_a_table || o == &walk || o == &walk_with_judging;
+    const char *bound = plain ? strstr(case_name, ", D") : NULL;
+    const char *rest = bound ? bound + strcspn(bound + 2, ",") + 2 : "";
+    printf("%u\t%s\t%.*s%s", (unsigned)rows, o->name, (int)(bound ? bound - case_name : (long)sizeof case_name), case_name, rest);
     print_bytes(given.table_length);
-    print_bytes(bound ? 0 : given.image_length);
+    print_bytes(plain ? 0 : given.image_length);
     printf("\t%.6f\t%.6f", ms[0] - ms[2], ms[1]);
-    /* The stack of a scan is that of the whole operation. */
+    /* The stack of a scan or a walk is that of the whole operation. */
     print_bytes(o->less ? 0 : stack_of(o->archive));
     printf("\n");
 }
@@ -62,6 +64,16 @@ static void scan_rows(const operation *o) {
                 use_payload(near);
                 row(o);
             }
+}
+
+/* A walk of both word lists with both payloads. */
+static void walk_rows(const operation *o) {
+    for (uint32_t k = 27; k <= 209; k += 182)
+        for (int near = 0; near < 2; near++) {
+            use_words(k, 2);
+            use_payload(near);
+            row(o);
+        }
 }
 
 /* An operation on the largest table of random rows. */
@@ -129,6 +141,8 @@ int main(void) {
     random_row(&expand);
     scan_rows(&scan);
     scan_rows(&scan_with_judging);
+    walk_rows(&walk);
+    walk_rows(&walk_with_judging);
     use_flat();
     row(&judging_an_image);
     use_chain();

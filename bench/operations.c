@@ -49,6 +49,16 @@ static void judge_and_scan_c(void) {
     by_c.numbers = refused ? answered(refused) : plain_scan(IMAGE, PAYLOAD, ROOM(by_c));
 }
 
+static void walk_archive(void) { by_archive.numbers = kamordast_walk(TABLE, PAYLOAD, ROOM(by_archive)); }
+/* Its judging alone, as it stands in the walk: the judge by itself is compiled otherwise. */
+static void walk_nothing(void) { by_archive.numbers = kamordast_walk(TABLE, given.state, given.payload, 0, ROOM(by_archive)); }
+static void walk_c(void) { by_c.numbers = plain_walk(TABLE, PAYLOAD, ROOM(by_c)); }
+
+static void judge_and_walk_c(void) {
+    uint32_t refused = plain_judge_table(TABLE);
+    by_c.numbers = refused ? answered(refused) : plain_walk(TABLE, PAYLOAD, ROOM(by_c));
+}
+
 const operation judging_a_table = {"judge a table", judge_table_archive, judge_table_c, NULL};
 const operation judging_an_image = {"judge an image", judge_image_archive, judge_image_c, NULL};
 const operation compact = {"compact", compact_archive, compact_c, NULL};
@@ -61,6 +71,8 @@ const operation write_with_a_list = {"write", write_archive, write_c, NULL};
 const operation expand = {"expand", expand_archive, expand_c, NULL};
 const operation scan = {"scan, no judging", scan_archive, scan_c, judge_image_archive};
 const operation scan_with_judging = {"scan with judging", scan_archive, judge_and_scan_c, NULL};
+const operation walk = {"walk, no judging", walk_archive, walk_c, walk_nothing};
+const operation walk_with_judging = {"walk with judging", walk_archive, judge_and_walk_c, NULL};
 
 void compare(const operation *o) {
     if (by_archive.numbers.refused) fail(o->name, by_archive.numbers.refused);

@@ -28,7 +28,7 @@ typedef struct {
 } operation;
 
 extern const operation judging_a_table, judging_an_image, compact, compact_seeking, compact_bgs, compact_ref, compact_toward, compact_toward_sparing;
-extern const operation write_with_a_list, expand, scan, scan_with_judging;
+extern const operation write_with_a_list, expand, scan, scan_with_judging, walk, walk_with_judging;
 
 /* Ends the program where the archive and C do not have the same outcome, or refuse. */
 void compare(const operation *o);

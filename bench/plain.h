@@ -59,7 +59,7 @@ kamordast_built plain_expand(const uint8_t *image, size_t length, uint8_t *room,
 /* The walk of a payload through an accepted image. */
 kamordast_scanned plain_scan(const uint8_t *image, size_t length, uint32_t state, const uint8_t *payload, size_t bytes, uint8_t *room, size_t room_length);
 
-/* The walk of a payload through an accepted table: what is paid without compacting. */
+/* The walk of a payload through an accepted table: what is paid without compacting, and what the archive's walk is held to. */
 kamordast_scanned plain_walk(const uint8_t *table, size_t length, uint32_t state, const uint8_t *payload, size_t bytes, uint8_t *room, size_t room_length);
 
 #endif

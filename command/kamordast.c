@@ -22,6 +22,7 @@ static const char help[] =
     "  write TABLE DEFAULTS IMAGE     the image of TABLE with a list of defaults, two bytes a state\n"
     "  expand IMAGE TABLE             the table of IMAGE\n"
     "  scan IMAGE PAYLOAD [STATE]     the reports of PAYLOAD, from STATE or the start state\n"
+    "  walk TABLE PAYLOAD [STATE]     the same by the table itself, without an image and without hops\n"
     "  served [--sort] IMAGE PAYLOAD  for each state how often it served and how often it ran; --sort: the one that served most first\n"
     "  bounds TABLE                   depth, worst, entries, defaults and bytes with bounds 0 to 3\n"
     "  forest [--dot] [--order N] TABLE BOUND\n"
@@ -31,6 +32,7 @@ static const char help[] =
     "Order 3 lets each state fall back toward the start: a whole payload from there costs no more hops than it has bytes, and BOUND changes nothing.\n"
     "Example: kamordast compact --order 3 examples/words.table 0 words.image\n"
     "Example: kamordast served --sort words.image README.md\n"
+    "Example: kamordast walk examples/words.table README.md\n"
     "Exit status: 0 done, 1 refused (the number and what to do on standard error), 2 usage, 3 file trouble, 4 a count that is not the scan's.\n"
     "A file is written beside its place, read back and judged before it gets its name.\n";
 
@@ -109,18 +111,31 @@ static int expand(const char *image, const char *table) {
     return store(image, kamordast_expand(input, length, room, sizeof room), table, is_table);
 }
 
-static int scan(const char *image, const char *bytes, const char *state_word) {
-    size_t length = read_file(image, input, LONGEST_IMAGE);
-    uint32_t refused = kamordast_judge_image(input, length);
-    if (refused) return refuse(image, refused);
+/* What runs a payload from a state, of an image or of a table, and what judges it; both have their start state at the same place. */
+typedef kamordast_scanned runner(const uint8_t *, size_t, uint32_t, const uint8_t *, size_t, uint8_t *, size_t);
+typedef uint32_t judges(const uint8_t *, size_t);
+
+/* Scan and walk: a line for each report, and one of the numbers. */
+static int reports(judges *judged, runner *run, const char *from, size_t longest, const char *bytes, const char *state_word) {
+    size_t length = read_file(from, input, longest);
+    uint32_t refused = judged(input, length);
+    if (refused) return refuse(from, refused);
     long state = state_word ? number_of(state_word, 4294967295L) : (long)number16(input, 4);
     if (state < 0) return usage("the state is a number from 0 to 4294967295");
     size_t payload_length = read_file(bytes, payload, LONGEST_PAYLOAD);
-    kamordast_scanned r = kamordast_scan(input, length, (uint32_t)state, payload, payload_length, room, 6 * LONGEST_PAYLOAD);
-    if (r.refused) return refuse(r.refused == 15 ? bytes : state_word ? state_word : image, r.refused);
+    kamordast_scanned r = run(input, length, (uint32_t)state, payload, payload_length, room, 6 * LONGEST_PAYLOAD);
+    if (r.refused) return refuse(r.refused == 15 ? bytes : state_word ? state_word : from, r.refused);
     for (uint32_t i = 0; i < r.reports; i++) printf("offset %u label %u\n", (unsigned)number32(room, 6 * (size_t)i), (unsigned)number16(room, 6 * (size_t)i + 4));
     printf("taken %u state %u reports %u hops %u\n", (unsigned)r.taken, (unsigned)r.state, (unsigned)r.reports, (unsigned)r.hops);
     return DONE;
+}
+
+static int scan(const char *image, const char *bytes, const char *state_word) {
+    return reports(kamordast_judge_image, kamordast_scan, image, LONGEST_IMAGE, bytes, state_word);
+}
+
+static int walk(const char *table, const char *bytes, const char *state_word) {
+    return reports(kamordast_judge_table, kamordast_walk, table, LONGEST_TABLE, bytes, state_word);
 }
 
 /* How many states of the image in the room have a default. */
@@ -197,6 +212,8 @@ static int run(int count, char **words) {
     if (!strcmp(command, "expand")) return count == 4 ? expand(words[2], words[3]) : usage("expand wants IMAGE TABLE");
     if (!strcmp(command, "scan"))
         return count == 4 || count == 5 ? scan(words[2], words[3], count == 5 ? words[4] : NULL) : usage("scan wants IMAGE PAYLOAD [STATE]");
+    if (!strcmp(command, "walk"))
+        return count == 4 || count == 5 ? walk(words[2], words[3], count == 5 ? words[4] : NULL) : usage("walk wants TABLE PAYLOAD [STATE]");
     if (!strcmp(command, "served")) {
         int sorted = option(&count, words, "--sort", NULL);
         return count == 4 ? served(words[2], words[3], sorted) : usage("served wants [--sort] IMAGE PAYLOAD");

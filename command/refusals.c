@@ -22,8 +22,8 @@ static const struct {
     {"a chain of defaults runs in a circle", "take another list of defaults, or build with compact"},
     {"an entry says what the default's chain says already", "the image stores what it need not: build it anew from the table"},
     {"the stated depth or worst is not true", "build the image anew from the table"},
-    {"the state is not a state of this image", "begin in the image's own start state"},
-    {"the payload has more than 65,536 bytes", "cut the payload and carry the state over from one scan to the next"},
+    {"the state is not a state of this image or table", "begin in its own start state"},
+    {"the payload has more than 65,536 bytes", "cut the payload and carry the state over from one scan or walk to the next"},
     {"the room for the result is too short", "give a larger room"},
     {0, 0}, /* 17 is not used */
     {"there is no such order", "take order 0, 1, 2 or 3; where none is named it is 0"},

@@ -1,4 +1,4 @@
-/* Kamordast: rule tables compacted into images, judged, expanded and scanned. Every function is proved to meet the definition paper.
+/* Kamordast: rule tables compacted into images, judged, expanded, scanned and walked. Every function is proved to meet the definition paper.
  *
  * A slice is a pointer and a length. The pointer is never null, not even for a length of 0, and a room overlaps no other slice. A caller that breaks this is
  * promised nothing.
@@ -20,7 +20,7 @@ typedef struct {
     uint32_t length;
 } kamordast_built;
 
-/* What scan answers: 0 or the refusal's number, bytes taken, the state, reports and hops. */
+/* What scan and walk answer: 0 or the refusal's number, bytes taken, the state, reports and hops. */
 typedef struct {
     uint32_t refused;
     uint32_t taken;
@@ -54,6 +54,10 @@ kamordast_built kamordast_expand(const uint8_t *image, size_t image_length, uint
 /* Scans a payload from a state. A report is 6 bytes in the room: the byte's offset in this call (32 bits) and the label (16 bits). The scan stops before
  * the first byte whose report has no room. */
 kamordast_scanned kamordast_scan(const uint8_t *image, size_t image_length, uint32_t state, const uint8_t *payload, size_t payload_length,
+                                 uint8_t *room, size_t room_length);
+
+/* Walks a payload from a state of a plain table, without an image: the same reports, room rule and answers as a scan of any image of the table, and always 0 hops. */
+kamordast_scanned kamordast_walk(const uint8_t *table, size_t table_length, uint32_t state, const uint8_t *payload, size_t payload_length,
                                  uint8_t *room, size_t room_length);
 
 #ifdef __cplusplus

@@ -507,3 +507,27 @@ reference_scanned reference_scan(const uint8_t *b, size_t length, uint32_t state
     free(r);
     return answer;
 }
+
+reference_scanned reference_walk(const uint8_t *t, size_t length, uint32_t state, const uint8_t *payload, size_t payload_length,
+                                 uint8_t *room, size_t room_length) {
+    reference_scanned answer = {reference_judge_table(t, length), 0, 0, 0, 0};
+    if (!answer.refused && state >= read16(t, 0)) answer.refused = 14;
+    if (!answer.refused && payload_length > 65536) answer.refused = 15;
+    if (answer.refused) return answer;
+    size_t n = read16(t, 0), k = read16(t, 2), left = room_length;
+    /* The table from its front on: 6 bytes, 256 classes, n labels, and then the rows, one for each state. */
+    const uint8_t *labels = t + 6 + 256, *rows = labels + 2 * n;
+    for (answer.state = state; answer.taken < payload_length; answer.taken++) {
+        const uint8_t *row = rows + 2 * k * answer.state;
+        uint32_t to = read16(row, 2 * (size_t)t[6 + payload[answer.taken]]), label = read16(labels, 2 * (size_t)to);
+        if (label && left < 6) break;
+        if (label) {
+            append32(&room, answer.taken);
+            append16(&room, label);
+            left -= 6;
+            answer.reports++;
+        }
+        answer.state = to;
+    }
+    return answer;
+}

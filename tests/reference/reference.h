@@ -23,5 +23,7 @@ reference_built reference_write(const uint8_t *table, size_t length, const uint8
 reference_built reference_expand(const uint8_t *image, size_t length, uint8_t *room, size_t room_length);
 reference_scanned reference_scan(const uint8_t *image, size_t length, uint32_t state, const uint8_t *payload, size_t payload_length,
                                  uint8_t *room, size_t room_length);
+reference_scanned reference_walk(const uint8_t *table, size_t length, uint32_t state, const uint8_t *payload, size_t payload_length,
+                                 uint8_t *room, size_t room_length);
 
 #endif

@@ -8,7 +8,7 @@ pub struct Built {
     pub length: u32,
 }
 
-// What scan answers: 0 or the refusal's number, bytes taken, state, reports and hops.
+// What scan and walk answer: 0 or the refusal's number, bytes taken, state, reports and hops.
 #[repr(C)]
 pub struct Scanned {
     pub refused: u32,
@@ -28,7 +28,7 @@ pub fn not_built(number: u32) -> Built
     }
 }
 
-// A refusal to scan: its number, and every other number 0.
+// A refusal to scan or to walk: its number, and every other number 0.
 pub fn not_scanned(number: u32) -> Scanned
     ensures { λ r. ⌜ (r .refused ≡ number) × (r .taken ≡ 0) × (r .state ≡ 0) × (r .reports ≡ 0) × (r .hops ≡ 0) ⌝ }
 {

@@ -1,5 +1,4 @@
 // The pairs of states taken by falling weight, each added or dropped for good.
-ghost use mathlib.Core.Path.{_≡_};
 ghost use Prim.Native.Nat.{_*_, _≤_, _<_};
 ghost use Rattle.paper.specs.Forest.{rest, falling};
 ghost use Rattle.trees.proofs.Best.{levelOf};

@@ -22,9 +22,9 @@ use Rattle.paper.specs.Roots.{pairsAt, GoesBefore}
 use Rattle.paper.specs.FallBack.{level}
 use Rattle.paper.specs.Defaults.{defaults}
 use Rattle.paper.specs.Reached.{LeadsTo, HasLevel}
-use Rattle.paper.specs.Operations.{judgeTable, judgeImage, result, Unchanged, building, compact, write, expand, scan}
-use Rattle.paper.specs.Promises.{SameBuilt, JudgesTable, JudgesImage, Compacts, Writes, Expands, Scans}
-use Rattle.paper.specs.Sentences.{FirstOf, Ends, LongestChain, Serves, LargestHops, tableSentences, imageSentences, compactSentences, writeSentences, expandSentences, scanSentences}
+use Rattle.paper.specs.Operations.{judgeTable, judgeImage, result, Unchanged, building, compact, write, expand, scan, walk}
+use Rattle.paper.specs.Promises.{SameBuilt, JudgesTable, JudgesImage, Compacts, Writes, Expands, Scans, Walks, SameWalk}
+use Rattle.paper.specs.Sentences.{FirstOf, Ends, LongestChain, Serves, LargestHops, tableSentences, imageSentences, compactSentences, writeSentences, expandSentences, scanSentences, walkSentences}
 use Rattle.paper.specs.Follows.{ScansLike}
 use Rattle.paper.specs.Altered.{Altered}
 use Rattle.paper.specs.Cases.{built, right, room, starred, requested, three}
@@ -44,8 +44,10 @@ use Rattle.levels.proofs.Payloads as reached
 use Rattle.trips.proofs.ExpandsBack as expands
 use Rattle.trips.proofs.WritesBack as writes
 use Rattle.scan.proofs.Hops as hops
+use Rattle.walk.proofs.Hopless as hopless
 use Rattle.nearing.proofs.Scan as nearing
 use Rattle.kamordast.proofs.Scanned as scanned
+use Rattle.kamordast.proofs.Left as left
 use Rattle.kamordast.proofs.Compacted as compacted
 
 -- Each operation's number is that of the first of its sentences that holds, 0 where none does.
@@ -55,7 +57,16 @@ pub refusals-exact : ((t : List ℕ) (number : ℕ) → judgeTable t ≡ number 
     × ((t ds room : List ℕ) (number : ℕ) → write t ds room .number ≡ number ↔ FirstOf (writeSentences t ds (length room)) number)
     × ((b room : List ℕ) (number : ℕ) → expand b room .number ≡ number ↔ FirstOf (expandSentences b (length room)) number)
     × ((b : List ℕ) (s : ℕ) (payload room : List ℕ) (number : ℕ) → scan b s payload room .number ≡ number ↔ FirstOf (scanSentences b s payload) number)
-refusals-exact = (exact.judge-table-exact, exact.judge-image-exact, exact.compact-exact, exact.write-exact, exact.expand-exact, exact.scan-exact)
+    × ((t : List ℕ) (s : ℕ) (payload room : List ℕ) (number : ℕ) → walk t s payload room .number ≡ number ↔ FirstOf (walkSentences t s payload) number)
+refusals-exact = (
+  exact.judge-table-exact,
+  exact.judge-image-exact,
+  exact.compact-exact,
+  exact.write-exact,
+  exact.expand-exact,
+  exact.scan-exact,
+  exact.walk-exact,
+)
 
 -- A refusal answers its number with every other number 0, and leaves the room as it was.
 pub refused-unchanged : ((t : List ℕ) (order D : ℕ) (room : List ℕ) → ¬ (compact t order D room .number ≡ 0) → Unchanged (compact t order D room) room)
@@ -63,7 +74,9 @@ pub refused-unchanged : ((t : List ℕ) (order D : ℕ) (room : List ℕ) → ¬
     × ((b room : List ℕ) → ¬ (expand b room .number ≡ 0) → Unchanged (expand b room) room)
     × ((b : List ℕ) (s : ℕ) (payload room : List ℕ) → ¬ (scan b s payload room .number ≡ 0)
     → (scan b s payload room .taken ≡ 0) × (scan b s payload room .state ≡ 0) × (scan b s payload room .reports ≡ 0) × (scan b s payload room .hops ≡ 0) × (scan b s payload room .room ≡ room))
-refused-unchanged = (refusing.compact-refused, refusing.write-refused, refusing.expand-refused, refusing.scan-refused)
+    × ((t : List ℕ) (s : ℕ) (payload room : List ℕ) → ¬ (walk t s payload room .number ≡ 0)
+    → (walk t s payload room .taken ≡ 0) × (walk t s payload room .state ≡ 0) × (walk t s payload room .reports ≡ 0) × (walk t s payload room .hops ≡ 0) × (walk t s payload room .room ≡ room))
+refused-unchanged = (refusing.compact-refused, refusing.write-refused, refusing.expand-refused, refusing.scan-refused, refusing.walk-refused)
 
 -- Of an accepted image every proper beginning is refused.
 pub prefix-refused : (b : List ℕ) (p : ℕ) → judgeImage b ≡ 0 → p < length b → ¬ (judgeImage (take p b) ≡ 0)
@@ -112,7 +125,17 @@ writes-back = writes.write-expand-own
 pub scan-follows : ((b : List ℕ) → Bytes b → judgeImage b ≡ 0 → ScansLike (tableOf b) b)
     × ((t : List ℕ) (order D : ℕ) (room : List ℕ) → Bytes t → compact t order D room .number ≡ 0 → ScansLike t (result (compact t order D room)))
     × ((t ds room : List ℕ) → Bytes t → write t ds room .number ≡ 0 → ScansLike t (result (write t ds room)))
-scan-follows = (scanned.accepted-scans, scanned.compacted-scans, scanned.written-scans)
+scan-follows = (scanned.accepted-scans, left.of-compact ScansLike scanned.accepted-scans, left.of-write ScansLike scanned.accepted-scans)
+
+-- The walk of a plain table and the scan of its image answer the same number, bytes taken, state and reports and leave the same bytes in the room, and the walk makes no hops: from every state, over every payload and with every room,
+-- refusals included; for any accepted image and its table, and for a table and what compact and write left of it.
+pub walk-same : ((b : List ℕ) → Bytes b → judgeImage b ≡ 0 → (s : ℕ) (payload room : List ℕ) → Bytes payload → SameWalk (walk (tableOf b) s payload room) (scan b s payload room))
+    × ((t : List ℕ) (order D : ℕ) (room : List ℕ) → Bytes t → compact t order D room .number ≡ 0
+    → (s : ℕ) (payload reports : List ℕ) → Bytes payload → SameWalk (walk t s payload reports) (scan (result (compact t order D room)) s payload reports))
+    × ((t ds room : List ℕ) → Bytes t → write t ds room .number ≡ 0
+    → (s : ℕ) (payload reports : List ℕ) → Bytes payload → SameWalk (walk t s payload reports) (scan (result (write t ds room)) s payload reports))
+    × ((t : List ℕ) (s : ℕ) (payload room : List ℕ) → walk t s payload room .hops ≡ 0)
+walk-same = (scanned.accepted-walks, left.of-compact scanned.SameWalks scanned.accepted-walks, left.of-write scanned.SameWalks scanned.accepted-walks, hopless.walk-hops)
 
 -- What the look-up finds for a state and a byte is what the chain gives: so many steps on stands the server, the first state that stores the class.
 pub look-served : (b : List ℕ) → judgeImage b ≡ 0 → (s x : ℕ) → s < image.states b → x < 256
@@ -201,6 +224,8 @@ pub determined : ((t : List ℕ) (n n′ : ℕ) → JudgesTable t n → JudgesTa
     × ((b room : List ℕ) (n l n′ l′ : ℕ) (r r′ : List ℕ) → Expands b room n l r → Expands b room n′ l′ r′ → SameBuilt n l r n′ l′ r′)
     × ((b : List ℕ) (s : ℕ) (payload room : List ℕ) (n t q k h n′ t′ q′ k′ h′ : ℕ) (r r′ : List ℕ)
     → Scans b s payload room n t q k h r → Scans b s payload room n′ t′ q′ k′ h′ r′ → (n ≡ n′) × (t ≡ t′) × (q ≡ q′) × (k ≡ k′) × (h ≡ h′) × (r ≡ r′))
+    × ((b : List ℕ) (s : ℕ) (payload room : List ℕ) (n t q k h n′ t′ q′ k′ h′ : ℕ) (r r′ : List ℕ)
+    → Walks b s payload room n t q k h r → Walks b s payload room n′ t′ q′ k′ h′ r′ → (n ≡ n′) × (t ≡ t′) × (q ≡ q′) × (k ≡ k′) × (h ≡ h′) × (r ≡ r′))
 determined = (
   one.judge-table-determined,
   one.judge-image-determined,
@@ -208,6 +233,7 @@ determined = (
   one.write-determined,
   one.expand-determined,
   one.scan-determined,
+  one.walk-determined,
 )
 
 -- The starred cases, one table, are right; the table of three states compacted with any D has 322 bytes and no defaults; and the cases of the requests, another table, are right.

@@ -15,11 +15,11 @@ use Rattle.paper.specs.Results.{labelBytes, recordBytes, entryBytes, front, tra
 use Rattle.paper.specs.Forest.{weight, singles, endNear, joined, d, longest, joinedLongest, addedOrDropped, pairs, neighbours, isRoot, root, pointsTo, forest, towardRoot}
 use Rattle.paper.specs.FallBack.{levels, towardStart}
 use Rattle.paper.specs.Defaults.{defaults}
-use Rattle.paper.specs.Scan.{scanOf}
-use Rattle.paper.specs.Operations.{judgeTable, judgeImage, Built, compacted, compactGrounds, compact, writeGrounds, write, expandGrounds, expand, scanGrounds, scan}
-use Rattle.paper.specs.Cases.{T, T2, three, aabbb, all16, room, Case, right, starred}
+use Rattle.paper.specs.Scan.{scanOf, walkOf}
+use Rattle.paper.specs.Operations.{judgeTable, judgeImage, Built, compacted, compactGrounds, compact, writeGrounds, write, expandGrounds, expand, scanGrounds, scan, walkGrounds, walk}
+use Rattle.paper.specs.Cases.{T, T2, three, aabbb, all16, room, Case, right, starred, requested}
 use Rattle.paper.proofs.Below.{and-true}
-use Rattle.paper.proofs.Cases.{pick-right, cases}
+use Rattle.paper.proofs.Cases.{pick-right, cases, requests}
 use Rattle.trips.proofs.ResultBytes.{image-of-bytes}
 
 -- The first numbers of equal lists are equal.
@@ -98,6 +98,13 @@ state-aabbb = heads (behind (pick-right 6 starred (cases .0))) .0
 pub hops-aabbb : scan T2 0 aabbb (room 12) .hops ≡ 2
 hops-aabbb = head (behind (behind (pick-right 6 starred (cases .0))))
 
+-- The walk of "aabbb" is accepted, takes five bytes and ends in state 0.
+pub walk-aabbb : (walk T 0 aabbb (room 12) .number ≡ 0) × (walk T 0 aabbb (room 12) .taken ≡ 5)
+walk-aabbb = heads (pick-right 21 requested requests)
+
+pub walk-state : walk T 0 aabbb (room 12) .state ≡ 0
+walk-state = heads (behind (pick-right 21 requested requests)) .0
+
 -- The payload "aaaaa".
 abbrev pub aaaaa : List ℕ
 aaaaa = 97 ∷ 97 ∷ 97 ∷ 97 ∷ 97 ∷ []
@@ -124,17 +131,18 @@ pub bytes-T2 : Bytes T2
 unfolding compacted
 bytes-T2 = image-of-bytes T (defaults T 0 2) bytes-T
 
--- Cases that the paper does not star: the image of T with D 2 is accepted and expands into T, the rooms are filled, and "aaaaa" is scanned.
+-- Cases that the paper does not star: the image of T with D 2 is accepted and expands into T, the rooms are filled, and "aaaaa" is scanned and walked.
 abbrev more : List Case
 more =
     (judgeImage T2 ∷ expand T2 (room 294) .number ∷ [], 0 ∷ 0 ∷ [])
     ∷ (byteAt (compact T 0 2 (room 324) .room) 0 ∷ byteAt (write T toThree (room 324) .room) 0 ∷ [], 4 ∷ 4 ∷ [])
     ∷ (byteAt (expand T2 (room 294) .room) 0 ∷ expand T2 (room 294) .resultLength ∷ [], 4 ∷ 294 ∷ [])
-    ∷ (scan T2 0 aaaaa (room 12) .state ∷ scan T2 0 aaaaa (room 12) .hops ∷ [], 1 ∷ 4 ∷ []) ∷ []
+    ∷ (scan T2 0 aaaaa (room 12) .state ∷ scan T2 0 aaaaa (room 12) .hops ∷ [], 1 ∷ 4 ∷ [])
+    ∷ (walk T 0 aaaaa (room 12) .state ∷ [], 1 ∷ []) ∷ []
 
 -- They are right, by computation.
 more-right : right more ≡ true
-unfolding number16 number32 bytes16 bytes32 _⊕_ checkWord labels next tableGrounds stored depthOf worstOf viewGrounds image.labels image.default image.count image.entryAt imageGrounds labelBytes recordBytes entryBytes front trailer parts imageOfView entriesOf imageOf tableFrom tableOf weight singles endNear joined d longest joinedLongest addedOrDropped pairs neighbours isRoot root pointsTo forest towardRoot levels towardStart defaults scanOf judgeTable judgeImage compacted compactGrounds compact writeGrounds write expandGrounds expand scanGrounds scan
+unfolding number16 number32 bytes16 bytes32 _⊕_ checkWord labels next tableGrounds stored depthOf worstOf viewGrounds image.labels image.default image.count image.entryAt imageGrounds labelBytes recordBytes entryBytes front trailer parts imageOfView entriesOf imageOf tableFrom tableOf weight singles endNear joined d longest joinedLongest addedOrDropped pairs neighbours isRoot root pointsTo forest towardRoot levels towardStart defaults scanOf judgeTable judgeImage compacted compactGrounds compact writeGrounds write expandGrounds expand scanGrounds scan walkOf walkGrounds walk
 more-right = refl
 
 -- The image of T is accepted and can be expanded.
@@ -150,3 +158,7 @@ filled-rooms =
 -- The scan of "aaaaa" ends in state 1 after 4 hops.
 pub scan-aaaaa : (scan T2 0 aaaaa (room 12) .state ≡ 1) × (scan T2 0 aaaaa (room 12) .hops ≡ 4)
 scan-aaaaa = heads (pick-right 3 more more-right)
+
+-- The walk of "aaaaa" ends in state 1.
+pub walk-aaaaa : walk T 0 aaaaa (room 12) .state ≡ 1
+walk-aaaaa = head (pick-right 4 more more-right)

@@ -1,3 +1,4 @@
+pub mod Left
 pub mod Scanned
 pub mod Compacted
 pub mod Known

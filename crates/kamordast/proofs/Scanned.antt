@@ -1,20 +1,30 @@
--- The scan against the plain table: of an accepted image against its own, of what write and compact left against the one that was handed in.
-use mathlib.Core.Path.{_≡_, sym, subst}
+-- The scan of an accepted image against its own table: it goes as the table says, and it answers and leaves what the table's walk does, but for the hops.
+use mathlib.Core.Path.{_≡_, sym, ap, _∙_, subst}
 use mathlib.Core.List.{List}
-use mathlib.Core.Option.{Option}
 use Prim.Native.Nat.{ℕ}
+use lib.ListN.{length}
 use Rattle.paper.specs.Words.{Bytes}
-use Rattle.paper.specs.Results.{imageOf, tableOf}
-use Rattle.paper.specs.Defaults.{defaults}
-use Rattle.paper.specs.Operations.{result, judgeImage, listed, compact, write}
+use Rattle.paper.specs.Refusals.{first}
+use Rattle.paper.specs.Table as table
+use Rattle.paper.specs.Table.{tableGrounds}
+use Rattle.paper.specs.Image as image
+use Rattle.paper.specs.Image.{imageGrounds}
+use Rattle.paper.specs.Results.{tableOf}
+use Rattle.paper.specs.Scan.{scanOf, walkOf}
+use Rattle.paper.specs.Operations.{judgeTable, judgeImage, runGrounds, scanning, scanGrounds, scan, walkGrounds, walk}
+use Rattle.paper.specs.Promises.{SameWalk}
 use Rattle.paper.specs.Follows.{ScansLike}
 use Rattle.facts.proofs.ImageFacts.{accepted-image}
-use Rattle.trips.proofs.TableOf.{table-reads}
-use Rattle.trips.proofs.Writable.{Writable}
-use Rattle.trips.proofs.ImageOf.{image-of-accepted, table-of-image}
-use Rattle.trips.proofs.ResultBytes.{image-of-bytes}
-use Rattle.trips.proofs.ExpandsBack.{write-leaves, compact-leaves}
-use Rattle.scan.proofs.Follows.{Says, scans-like}
+use Rattle.trips.proofs.TableOf.{table-reads, table-of-accepted}
+use Rattle.running.proofs.Alike.{outcomes-alike}
+use Rattle.running.proofs.Verdict.{verdict-judged, verdict-clear}
+use Rattle.scan.proofs.Verdict.{image-numbered}
+use Rattle.scan.proofs.Follows.{Says, scan-plain, scans-like}
+use Rattle.walk.proofs.Verdict.{table-numbered}
+
+-- The walks of a table and the scans of an image agree in all but the hops.
+abbrev pub SameWalks : List ℕ → List ℕ → Type 0
+SameWalks t b = (s : ℕ) (payload room : List ℕ) → Bytes payload → SameWalk (walk t s payload room) (scan b s payload room)
 
 module _ (b : List ℕ) (B : Bytes b) (e : judgeImage b ≡ 0) where
   -- The table says of classes, labels and next states what the image says.
@@ -31,20 +41,29 @@ module _ (b : List ℕ) (B : Bytes b) (e : judgeImage b ≡ 0) where
   pub accepted-scans : ScansLike (tableOf b) b
   accepted-scans = scans-like b (accepted-image b e) (tableOf b) table-says
 
--- The scans of the image of a table go as that table says.
-image-scans : (t : List ℕ) (default : ℕ → Option ℕ) → Bytes t → Writable t default → ScansLike t (imageOf t default)
-image-scans t default B W =
-    subst (λ (x : List ℕ). ScansLike x (imageOf t default)) (table-of-image t default B W)
-    (accepted-scans (imageOf t default) (image-of-bytes t default B) (image-of-accepted t default B W))
+  -- The table.
+  abbrev t : List ℕ
+  t = tableOf b
 
--- So do those of what compact left.
-pub compacted-scans : (t : List ℕ) (order D : ℕ) (room : List ℕ) → Bytes t → compact t order D room .number ≡ 0 → ScansLike t (result (compact t order D room))
-compacted-scans t order D room B e =
-    let (w, W) = compact-leaves t order D room e in
-    subst (λ (b : List ℕ). ScansLike t b) (sym w) (image-scans t (defaults t order D) B W)
+  -- It has the image's states.
+  states-same : table.states t ≡ image.states b
+  states-same = table-reads b B e .states-is
 
--- And of what write left, with any list that it accepts.
-pub written-scans : (t ds room : List ℕ) → Bytes t → write t ds room .number ≡ 0 → ScansLike t (result (write t ds room))
-written-scans t ds room B e =
-    let (w, W) = write-leaves t ds room e in
-    subst (λ (b : List ℕ). ScansLike t b) (sym w) (image-scans t (listed ds) B W)
+  -- Scan and walk give the same number.
+  verdict-same : (s : ℕ) (payload : List ℕ) → first (walkGrounds t s payload) ≡ first (scanGrounds b s payload)
+  unfolding scanGrounds walkGrounds judgeImage judgeTable
+  verdict-same s payload =
+      verdict-judged (tableGrounds t) (table-numbered t) (table.states t) s payload (table-of-accepted b B e)
+      ∙ ap (λ (n : ℕ). first (runGrounds n s payload)) states-same
+      ∙ sym (verdict-judged (imageGrounds b) (image-numbered b) (image.states b) s payload e)
+
+  -- So they agree in all but the hops.
+  pub accepted-walks : SameWalks t b
+  unfolding scan walk scanGrounds
+  accepted-walks s payload room P =
+      let v = first (scanGrounds b s payload) in
+      subst (λ (w : ℕ). SameWalk (scanning w (walkOf t s payload (length room)) room) (scan b s payload room)) (sym (verdict-same s payload))
+      (outcomes-alike v (walkOf t s payload (length room)) (scanOf b s payload (length room)) room
+      (λ z.
+      let (_, inside, _) = verdict-clear (imageGrounds b) (image-numbered b) (image.states b) s payload z in
+      sym (scan-plain b (accepted-image b e) t table-says s payload (length room) P inside)))

@@ -4,10 +4,10 @@ use mathlib.Core.List.{List, _∷_}
 use Prim.Native.Nat.{ℕ}
 use native.Mathlib.Omega.{arith}
 use lib.ListN.{length}
-use Rattle.paper.specs.Words.{byteAt}
-use Rattle.paper.specs.Operations.{Built, compact, write, expand, Scanned}
-use Rattle.paper.specs.Promises.{JudgesTable, JudgesImage, IsBuilt, Compacts, Writes, Expands, Scans}
-use Rattle.paper.specs.Handed.{ToJudge, ToCompact, ToWrite, ToExpand, ToScan}
+use Rattle.paper.specs.Words.{byteAt, Bytes}
+use Rattle.paper.specs.Operations.{Built, compact, write, expand, Scanned, scan, walk}
+use Rattle.paper.specs.Promises.{JudgesTable, JudgesImage, IsBuilt, IsScanned, Compacts, Writes, Expands, Scans, Walks}
+use Rattle.paper.specs.Handed.{ToJudge, ToCompact, ToWrite, ToExpand, ToScan, ToWalk}
 use Rattle.paper.specs.Cases.{T, T2, three, aabbb, room}
 use Rattle.kamordast.proofs.Known as known
 use Rattle.kamordast.proofs.Known.{Accepts, toThree, downwards, aaaaa}
@@ -120,54 +120,62 @@ module _ (p : ToExpand → Built) (keeps : (x : ToExpand) → Expands (x .image)
   pub expand-untouched : ¬ ((x : ToExpand) → p x .room ≡ x .room)
   expand-untouched = untouched (λ x. x .room) expanding p keeps image-T 4 (known.filled-rooms .2) (λ e. absurd (omega arith))
 
+-- A program p that keeps the promise of an operation that runs a payload, on any inputs A.
+module _ {A : Type 0} (operation p : A → Scanned)
+    (keeps : (x : A) → IsScanned (operation x) (p x .number) (p x .taken) (p x .state) (p x .reports) (p x .hops) (p x .room)) where
+  -- It does not refuse everything, where the operation accepts something.
+  runs-nothing : (x : A) → operation x .number ≡ 0 → ¬ ((x : A) → ¬ (p x .number ≡ 0))
+  runs-nothing x e wrong = wrong x (keeps x .number-is ∙ e)
+
+  -- It does not always stop before the first byte, where the operation takes some.
+  takes-nothing : (x : A) (n : ℕ) → operation x .taken ≡ n → ¬ (n ≡ 0) → ¬ ((x : A) → p x .taken ≡ 0)
+  takes-nothing x n e z wrong = z (sym (keeps x .taken-is ∙ e) ∙ wrong x)
+
+  -- Two of its answers that the operation gives in two states are not in one.
+  two-states : (x x′ : A) (s s′ : ℕ) → operation x .state ≡ s → operation x′ .state ≡ s′ → ¬ (s ≡ s′) → ¬ (p x .state ≡ p x′ .state)
+  two-states x x′ s s′ e e′ z same = z (sym (keeps x .state-is ∙ e) ∙ same ∙ (keeps x′ .state-is ∙ e′))
+
 -- A program p that keeps the promise of scan.
 module _ (p : ToScan → Scanned)
     (keeps : (x : ToScan) → Scans (x .image) (x .state) (x .payload) (x .room) (p x .number) (p x .taken) (p x .state) (p x .reports) (p x .hops) (p x .room)) where
   -- "aabbb" and "aaaaa" over the image of T with D 2.
-  abbrev over-aabbb : ToScan
-  over-aabbb =
+  abbrev scan-of : (payload : List ℕ) → Bytes payload → ToScan
+  scan-of payload P =
       record {
         image = T2;
         state = 0;
-        payload = aabbb;
+        payload = payload;
         room = room 12;
         image-bytes = known.bytes-T2;
         state-small = omega arith;
-        payload-bytes = known.bytes-payloads .0;
+        payload-bytes = P;
         room-bytes = known.bytes-room 12;
       }
 
+  abbrev over-aabbb : ToScan
+  over-aabbb = scan-of aabbb (known.bytes-payloads .0)
+
   abbrev over-aaaaa : ToScan
-  over-aaaaa =
-      record {
-        image = T2;
-        state = 0;
-        payload = aaaaa;
-        room = room 12;
-        image-bytes = known.bytes-T2;
-        state-small = omega arith;
-        payload-bytes = known.bytes-payloads .1;
-        room-bytes = known.bytes-room 12;
-      }
+  over-aaaaa = scan-of aaaaa (known.bytes-payloads .1)
+
+  -- Scan itself.
+  abbrev scanning : ToScan → Scanned
+  scanning x = scan (x .image) (x .state) (x .payload) (x .room)
 
   -- It does not refuse everything.
   pub scan-refuses-all : ¬ ((x : ToScan) → ¬ (p x .number ≡ 0))
-  scan-refuses-all wrong = wrong over-aabbb (keeps over-aabbb .number-is ∙ known.accepts-aabbb .0)
+  scan-refuses-all = runs-nothing scanning p keeps over-aabbb (known.accepts-aabbb .0)
 
   -- It does not always stop before the first byte.
   pub scan-takes-nothing : ¬ ((x : ToScan) → p x .taken ≡ 0)
-  scan-takes-nothing wrong =
-      let q : _≡_ {A = ℕ} 5 0 = sym (keeps over-aabbb .taken-is ∙ known.accepts-aabbb .1) ∙ wrong over-aabbb in
-      absurd (omega arith)
+  scan-takes-nothing = takes-nothing scanning p keeps over-aabbb 5 (known.accepts-aabbb .1) (λ e. absurd (omega arith))
 
   -- It does not work the first byte and invent the others from their number alone.
   pub scan-invents-bytes : (invented : List ℕ → ℕ → ℕ → ℕ → ℕ)
       → ¬ ((x : ToScan) (byte : ℕ) (others : List ℕ) → x .payload ≡ byte ∷ others → p x .state ≡ invented (x .image) (x .state) byte (length others))
   scan-invents-bytes invented wrong =
-      let q : _≡_ {A = ℕ} 0 1 =
-      sym (keeps over-aabbb .state-is ∙ known.state-aabbb) ∙ wrong over-aabbb 97 _ refl
-      ∙ sym (wrong over-aaaaa 97 _ refl) ∙ (keeps over-aaaaa .state-is ∙ known.scan-aaaaa .0) in
-      absurd (omega arith)
+      two-states scanning p keeps over-aabbb over-aaaaa 0 1 known.state-aabbb (known.scan-aaaaa .0) (λ e. absurd (omega arith))
+      (wrong over-aabbb 97 _ refl ∙ sym (wrong over-aaaaa 97 _ refl))
 
   -- It does not invent the hops from the number of bytes.
   pub scan-invents-hops : (invented : ℕ → ℕ) → ¬ ((x : ToScan) → p x .hops ≡ invented (length (x .payload)))
@@ -176,3 +184,45 @@ module _ (p : ToScan → Scanned)
       sym (keeps over-aabbb .hops-is ∙ known.hops-aabbb) ∙ wrong over-aabbb
       ∙ sym (wrong over-aaaaa) ∙ (keeps over-aaaaa .hops-is ∙ known.scan-aaaaa .1) in
       absurd (omega arith)
+
+-- A program p that keeps the promise of walk.
+module _ (p : ToWalk → Scanned)
+    (keeps : (x : ToWalk) → Walks (x .table) (x .state) (x .payload) (x .room) (p x .number) (p x .taken) (p x .state) (p x .reports) (p x .hops) (p x .room)) where
+  -- "aabbb" and "aaaaa" over T.
+  abbrev walk-of : (payload : List ℕ) → Bytes payload → ToWalk
+  walk-of payload P =
+      record {
+        table = T;
+        state = 0;
+        payload = payload;
+        room = room 12;
+        table-bytes = known.bytes-T;
+        state-small = omega arith;
+        payload-bytes = P;
+        room-bytes = known.bytes-room 12;
+      }
+
+  abbrev walk-aabbb : ToWalk
+  walk-aabbb = walk-of aabbb (known.bytes-payloads .0)
+
+  abbrev walk-aaaaa : ToWalk
+  walk-aaaaa = walk-of aaaaa (known.bytes-payloads .1)
+
+  -- Walk itself.
+  abbrev walking : ToWalk → Scanned
+  walking x = walk (x .table) (x .state) (x .payload) (x .room)
+
+  -- It does not refuse everything.
+  pub walk-refuses-all : ¬ ((x : ToWalk) → ¬ (p x .number ≡ 0))
+  walk-refuses-all = runs-nothing walking p keeps walk-aabbb (known.walk-aabbb .0)
+
+  -- It does not always stop before the first byte.
+  pub walk-takes-nothing : ¬ ((x : ToWalk) → p x .taken ≡ 0)
+  walk-takes-nothing = takes-nothing walking p keeps walk-aabbb 5 (known.walk-aabbb .1) (λ e. absurd (omega arith))
+
+  -- It does not work the first byte and invent the others from their number alone.
+  pub walk-invents-bytes : (invented : List ℕ → ℕ → ℕ → ℕ → ℕ)
+      → ¬ ((x : ToWalk) (byte : ℕ) (others : List ℕ) → x .payload ≡ byte ∷ others → p x .state ≡ invented (x .table) (x .state) byte (length others))
+  walk-invents-bytes invented wrong =
+      two-states walking p keeps walk-aabbb walk-aaaaa 0 1 known.walk-state known.walk-aaaaa (λ e. absurd (omega arith))
+      (wrong walk-aabbb 97 _ refl ∙ sym (wrong walk-aaaaa 97 _ refl))

@@ -17,7 +17,8 @@ pub use view::label_of;
 pub use view::open;
 pub use view::record_from;
 pub use view::record_of;
-ghost use Rattle.paper.specs.Promises.{JudgesTable, JudgesImage, Writes, Compacts, Expands, Scans};
+pub use walk::walk;
+ghost use Rattle.paper.specs.Promises.{JudgesTable, JudgesImage, Writes, Compacts, Expands, Scans, Walks};
 
 // Judges a plain table: 0, or the refusal's number.
 #[no_mangle]
@@ -83,4 +84,17 @@ pub extern "C" fn kamordast_scan(
     ensures { λ r. ⌜ Scans (now (image .entry)) state (now (payload .entry)) (now (room .entry)) (r .refused) (r .taken) (r .state) (r .reports) (r .hops) (now (room .exit)) ⌝ }
 {
     scan::scan(image, state, payload, room)
+}
+
+// Walks a payload from a state of a plain table, without an image, and writes its reports at the front of the room.
+#[no_mangle]
+pub extern "C" fn kamordast_walk(
+    table: &[u8],
+    state: u32,
+    payload: &[u8],
+    room: &mut [u8],
+) -> Scanned
+    ensures { λ r. ⌜ Walks (now (table .entry)) state (now (payload .entry)) (now (room .entry)) (r .refused) (r .taken) (r .state) (r .reports) (r .hops) (now (room .exit)) ⌝ }
+{
+    walk::walk(table, state, payload, room)
 }

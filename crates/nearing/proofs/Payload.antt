@@ -13,8 +13,8 @@ use Rattle.paper.specs.FallBack.{level, towardStart}
 use Rattle.paper.specs.Walk.{stateAfter}
 use Rattle.paper.specs.Operations.{judgeTable}
 use Rattle.facts.proofs.TableFacts.{accepted-table}
-use Rattle.scan.proofs.Walk.{costAfter}
-use Rattle.scan.proofs.Bytewise.{target, cost}
+use Rattle.running.proofs.Walk.{costAfter}
+use Rattle.running.proofs.Bytewise.{target, cost}
 use Rattle.nearing.proofs.Byte.{look-next, look-lower}
 
 -- What a look-up finds at a state of level l, after at most l hops, is a state with a level, which with the hops is at most one more than l.

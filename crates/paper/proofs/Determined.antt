@@ -1,9 +1,9 @@
--- Any two outcomes that a promise allows are one, for each of the six operations.
+-- Any two outcomes that a promise allows are one, for each operation.
 use mathlib.Core.Path.{_≡_, sym, _∙_}
 use mathlib.Core.List.{List}
 use Prim.Native.Nat.{ℕ}
-use Rattle.paper.specs.Operations.{Built}
-use Rattle.paper.specs.Promises.{IsBuilt, SameBuilt, JudgesTable, JudgesImage, Compacts, Writes, Expands, Scans}
+use Rattle.paper.specs.Operations.{Built, Scanned}
+use Rattle.paper.specs.Promises.{IsBuilt, IsScanned, SameBuilt, JudgesTable, JudgesImage, Compacts, Writes, Expands, Scans, Walks}
 
 -- Two answers to one question are one.
 one : {A : Type 0} {x y z : A} → x ≡ z → y ≡ z → x ≡ y
@@ -11,6 +11,17 @@ one p q = p ∙ sym q
 
 built-determined : (o : Built) (n l n′ l′ : ℕ) (r r′ : List ℕ) → IsBuilt o n l r → IsBuilt o n′ l′ r′ → SameBuilt n l r n′ l′ r′
 built-determined o n l n′ l′ r r′ a b = (one (a .number-is) (b .number-is), one (a .length-is) (b .length-is), one (a .room-is) (b .room-is))
+
+scanned-determined : (o : Scanned) (n t q k h n′ t′ q′ k′ h′ : ℕ) (r r′ : List ℕ) → IsScanned o n t q k h r → IsScanned o n′ t′ q′ k′ h′ r′
+    → (n ≡ n′) × (t ≡ t′) × (q ≡ q′) × (k ≡ k′) × (h ≡ h′) × (r ≡ r′)
+scanned-determined o n t q k h n′ t′ q′ k′ h′ r r′ x y = (
+  one (x .number-is) (y .number-is),
+  one (x .taken-is) (y .taken-is),
+  one (x .state-is) (y .state-is),
+  one (x .reports-is) (y .reports-is),
+  one (x .hops-is) (y .hops-is),
+  one (x .room-is) (y .room-is),
+)
 
 -- Judging a table.
 pub judge-table-determined : (t : List ℕ) (n n′ : ℕ) → JudgesTable t n → JudgesTable t n′ → n ≡ n′
@@ -39,11 +50,10 @@ expand-determined b room = built-determined _
 pub scan-determined : (b : List ℕ) (s : ℕ) (payload room : List ℕ) (n t q k h n′ t′ q′ k′ h′ : ℕ) (r r′ : List ℕ)
     → Scans b s payload room n t q k h r → Scans b s payload room n′ t′ q′ k′ h′ r′
     → (n ≡ n′) × (t ≡ t′) × (q ≡ q′) × (k ≡ k′) × (h ≡ h′) × (r ≡ r′)
-scan-determined b s payload room n t q k h n′ t′ q′ k′ h′ r r′ x y = (
-  one (x .number-is) (y .number-is),
-  one (x .taken-is) (y .taken-is),
-  one (x .state-is) (y .state-is),
-  one (x .reports-is) (y .reports-is),
-  one (x .hops-is) (y .hops-is),
-  one (x .room-is) (y .room-is),
-)
+scan-determined b s payload room = scanned-determined _
+
+-- Walk.
+pub walk-determined : (b : List ℕ) (s : ℕ) (payload room : List ℕ) (n t q k h n′ t′ q′ k′ h′ : ℕ) (r r′ : List ℕ)
+    → Walks b s payload room n t q k h r → Walks b s payload room n′ t′ q′ k′ h′ r′
+    → (n ≡ n′) × (t ≡ t′) × (q ≡ q′) × (k ≡ k′) × (h ≡ h′) × (r ≡ r′)
+walk-determined b s payload room = scanned-determined _

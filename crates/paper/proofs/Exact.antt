@@ -11,9 +11,9 @@ use Rattle.paper.specs.View.{defaultBad, endless}
 use Rattle.paper.specs.Image as image
 use Rattle.paper.specs.Image.{imageGrounds}
 use Rattle.paper.specs.Results.{tableView, imageOf, tableOf}
-use Rattle.paper.specs.Scan.{Run, scanOf}
-use Rattle.paper.specs.Operations.{judgeTable, judgeImage, building, scanning, listed, compacted, compactGrounds, compact, writeGrounds, write, expandGrounds, expand, scanGrounds, scan}
-use Rattle.paper.specs.Sentences.{Sentence, FirstOf, DefaultWrong, Returns, tableSentences, imageSentences, compactSentences, writeSentences, expandSentences, scanSentences}
+use Rattle.paper.specs.Scan.{Run, scanOf, walkOf}
+use Rattle.paper.specs.Operations.{judgeTable, judgeImage, building, scanning, listed, compacted, compactGrounds, compact, writeGrounds, write, expandGrounds, expand, runGrounds, scanGrounds, scan, walkGrounds, walk}
+use Rattle.paper.specs.Sentences.{Sentence, FirstOf, DefaultWrong, Returns, tableSentences, imageSentences, compactSentences, writeSentences, expandSentences, runSentences, scanSentences, walkSentences}
 use Rattle.paper.proofs.Tests.{holds-less, holds-not-below, holds-differ, holds-or, holds-some}
 use Rattle.paper.proofs.Returns.{holds-returns}
 use Rattle.paper.proofs.Sentences.{Says, exact, says-append}
@@ -96,11 +96,12 @@ expand-exact b room number =
     through (expandGrounds b (length room)) (expandSentences b (length room)) _ number (number-building (first (expandGrounds b (length room))) (tableOf b) room)
     (expand-says b (length room))
 
+run-says : (n s : ℕ) (payload : List ℕ) → Says (runGrounds n s payload) (runSentences n s payload)
+run-says n s payload = (refl, holds-not-below s n, λ _. (refl, holds-less 65536 (length payload), λ _. tt))
+
 scan-says : (b : List ℕ) (s : ℕ) (payload : List ℕ) → Says (scanGrounds b s payload) (scanSentences b s payload)
 unfolding scanGrounds scanSentences
-scan-says b s payload =
-    says-append (imageGrounds b) _ (imageSentences b) _ (image-says b)
-    (refl, holds-not-below s (image.states b), λ _. (refl, holds-less 65536 (length payload), λ _. tt))
+scan-says b s payload = says-append (imageGrounds b) _ (imageSentences b) _ (image-says b) (run-says (image.states b) s payload)
 
 -- Scan.
 pub scan-exact : (b : List ℕ) (s : ℕ) (payload room : List ℕ) (number : ℕ) → scan b s payload room .number ≡ number ↔ FirstOf (scanSentences b s payload) number
@@ -108,3 +109,14 @@ unfolding scan
 scan-exact b s payload room number =
     through (scanGrounds b s payload) (scanSentences b s payload) _ number (number-scanning (first (scanGrounds b s payload)) (scanOf b s payload (length room)) room)
     (scan-says b s payload)
+
+walk-says : (t : List ℕ) (s : ℕ) (payload : List ℕ) → Says (walkGrounds t s payload) (walkSentences t s payload)
+unfolding walkGrounds walkSentences
+walk-says t s payload = says-append (tableGrounds t) _ (tableSentences t) _ (table-says t) (run-says (states t) s payload)
+
+-- Walk.
+pub walk-exact : (t : List ℕ) (s : ℕ) (payload room : List ℕ) (number : ℕ) → walk t s payload room .number ≡ number ↔ FirstOf (walkSentences t s payload) number
+unfolding walk
+walk-exact t s payload room number =
+    through (walkGrounds t s payload) (walkSentences t s payload) _ number (number-scanning (first (walkGrounds t s payload)) (walkOf t s payload (length room)) room)
+    (walk-says t s payload)

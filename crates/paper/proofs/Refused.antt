@@ -5,8 +5,8 @@ use Prim.Native.Nat.{ℕ, zero, suc}
 use lib.ListN.{length}
 use Rattle.paper.specs.Refusals.{first}
 use Rattle.paper.specs.Results.{imageOf, tableOf}
-use Rattle.paper.specs.Scan.{Run, scanOf}
-use Rattle.paper.specs.Operations.{Unchanged, building, scanning, filled, listed, compacted, compactGrounds, compact, writeGrounds, write, expandGrounds, expand, scanGrounds, scan}
+use Rattle.paper.specs.Scan.{Run, scanOf, walkOf}
+use Rattle.paper.specs.Operations.{Unchanged, building, scanning, filled, listed, compacted, compactGrounds, compact, writeGrounds, write, expandGrounds, expand, scanGrounds, scan, walkGrounds, walk}
 use Rattle.paper.specs.Promises.{IsBuilt}
 
 -- A refusal answers its number and 0, and leaves the room.
@@ -48,3 +48,9 @@ pub scan-refused : (b : List ℕ) (s : ℕ) (payload room : List ℕ) → ¬ (sc
     → (scan b s payload room .taken ≡ 0) × (scan b s payload room .state ≡ 0) × (scan b s payload room .reports ≡ 0) × (scan b s payload room .hops ≡ 0) × (scan b s payload room .room ≡ room)
 unfolding scan
 scan-refused b s payload room = scanning-refused (first (scanGrounds b s payload)) (scanOf b s payload (length room)) room
+
+-- Walk.
+pub walk-refused : (t : List ℕ) (s : ℕ) (payload room : List ℕ) → ¬ (walk t s payload room .number ≡ 0)
+    → (walk t s payload room .taken ≡ 0) × (walk t s payload room .state ≡ 0) × (walk t s payload room .reports ≡ 0) × (walk t s payload room .hops ≡ 0) × (walk t s payload room .room ≡ room)
+unfolding walk
+walk-refused t s payload room = scanning-refused (first (walkGrounds t s payload)) (walkOf t s payload (length room)) room

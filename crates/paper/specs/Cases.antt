@@ -13,7 +13,7 @@ use Rattle.paper.specs.Image.{entries, depth, worst, imageView}
 use Rattle.paper.specs.Results.{defaultNumber, imageOf}
 use Rattle.paper.specs.Forest.{Trees, weight, singles, joined, root, lean, forest}
 use Rattle.paper.specs.FallBack.{level}
-use Rattle.paper.specs.Operations.{judgeTable, Built, compacted, compact, listed, write, Scanned, scan}
+use Rattle.paper.specs.Operations.{judgeTable, Built, compacted, compact, listed, write, Scanned, scan, walk}
 use Rattle.paper.specs.Programs.{boundsText, servedText}
 
 -- Numbers of 16 bits, one after the other.
@@ -175,4 +175,7 @@ requested =
     ∷ (servedText (T2 ++ aabbb), 48 ∷ 32 ∷ 51 ∷ 32 ∷ 49 ∷ 10 ∷ 49 ∷ 32 ∷ 49 ∷ 32 ∷ 50 ∷ 10 ∷ 50 ∷ 32 ∷ 49 ∷ 32 ∷ 49 ∷ 10 ∷ 51 ∷ 32 ∷ 48 ∷ 32 ∷ 49 ∷ 10 ∷ [])
     ∷ (servedText T2, 48 ∷ 32 ∷ 48 ∷ 32 ∷ 48 ∷ 10 ∷ 49 ∷ 32 ∷ 48 ∷ 32 ∷ 48 ∷ 10 ∷ 50 ∷ 32 ∷ 48 ∷ 32 ∷ 48 ∷ 10 ∷ 51 ∷ 32 ∷ 48 ∷ 32 ∷ 48 ∷ 10 ∷ [])
     ∷ (servedText (take 323 T2), 114 ∷ 101 ∷ 102 ∷ 117 ∷ 115 ∷ 101 ∷ 100 ∷ 32 ∷ 51 ∷ 10 ∷ [])
+    ∷ (scanned (walk T 0 aabbb (room 12)), 0 ∷ 5 ∷ 0 ∷ 2 ∷ 0 ∷ (bytes32 2 ++ bytes16 7 ++ bytes32 3 ++ bytes16 9))
+    ∷ (scanned (walk T 0 aabbb (room 6)), 0 ∷ 3 ∷ 2 ∷ 1 ∷ 0 ∷ (bytes32 2 ++ bytes16 7))
+    ∷ (walk T 4 aabbb [] .number ∷ [], 14 ∷ [])
     ∷ []

@@ -45,3 +45,14 @@ pub record ToScan : Type 0 where
   pub state-small : state < 4294967296
   pub payload-bytes : Bytes payload
   pub room-bytes : Bytes room
+
+-- To walk: a table, a state of 32 bits, a payload and a room.
+pub record ToWalk : Type 0 where
+  pub table : List ℕ
+  pub state : ℕ
+  pub payload : List ℕ
+  pub room : List ℕ
+  pub table-bytes : Bytes table
+  pub state-small : state < 4294967296
+  pub payload-bytes : Bytes payload
+  pub room-bytes : Bytes room

@@ -140,6 +140,14 @@ writeSentences t ds room =
 unfoldable pub expandSentences : List ℕ → ℕ → List Sentence
 expandSentences b room = imageSentences b ++ ((16, room < length (tableOf b)) ∷ [])
 
+-- A payload from a state, one of n: 14, 15.
+abbrev pub runSentences : ℕ → ℕ → List ℕ → List Sentence
+runSentences n s payload = (14, ¬ (s < n)) ∷ (15, 65536 < length payload) ∷ []
+
 -- Scan: the image's, 14, 15.
 unfoldable pub scanSentences : List ℕ → ℕ → List ℕ → List Sentence
-scanSentences b s payload = imageSentences b ++ ((14, ¬ (s < image.states b)) ∷ (15, 65536 < length payload) ∷ [])
+scanSentences b s payload = imageSentences b ++ runSentences (image.states b) s payload
+
+-- Walk: the table's, 14, 15.
+unfoldable pub walkSentences : List ℕ → ℕ → List ℕ → List Sentence
+walkSentences t s payload = tableSentences t ++ runSentences (table.states t) s payload

@@ -1,0 +1,9 @@
+pub mod Walk
+pub mod Bytewise
+pub mod Prefix
+pub mod Rules
+pub mod Alike
+pub mod Label
+pub mod Going
+pub mod GoesOn
+pub mod Verdict

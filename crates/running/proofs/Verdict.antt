@@ -1,0 +1,93 @@
+-- The number and the answers of what runs a payload: the judge's grounds first, then 14, then 15.
+use mathlib.Core.Path.{_≡_, refl, sym, ap, _∙_}
+use mathlib.Core.Bool.{Bool, true, false, cond}
+use mathlib.Core.List.{List, _++_}
+use Prim.Native.Nat.{ℕ, zero, suc, _≤_, _<_}
+use native.Mathlib.Omega.{arith}
+use lib.Dec.{ltb, leb}
+use lib.ListN.{length}
+use borrow.Author.Tests.{le-leb, lt-leb, lt-ltb, le-ltb, leb-false, ltb-false}
+use Rattle.paper.specs.Refusals.{Ground, first}
+use Rattle.paper.specs.Scan.{Run}
+use Rattle.paper.specs.Operations.{runGrounds, Scanned, scanning}
+use Rattle.paper.specs.Promises.{IsScanned}
+use Rattle.paper.proofs.Refusals.{numbered, past, first-append}
+
+-- The five numbers of a refusal.
+abbrev pub Zeros : ℕ → ℕ → ℕ → ℕ → ℕ → ℕ → Type 0
+Zeros v number taken state reports hops = (number ≡ v) × (taken ≡ 0) × (state ≡ 0) × (reports ≡ 0) × (hops ≡ 0)
+
+refusing : (v : ℕ) (r : Run) (room : List ℕ) → ¬ (v ≡ 0) → IsScanned (scanning v r room) v 0 0 0 0 room
+refusing zero r room n = absurd (n refl)
+refusing (suc v) r room n = record { number-is = refl; taken-is = refl; state-is = refl; reports-is = refl; hops-is = refl; room-is = refl }
+
+-- The number of an outcome is the verdict.
+scanning-number : (v : ℕ) (r : Run) (room : List ℕ) → scanning v r room .number ≡ v
+scanning-number zero r room = refl
+scanning-number (suc v) r room = refl
+
+module _ (gs : List Ground) (ok : numbered gs ≡ true) (n s : ℕ) (payload : List ℕ) where
+  -- What the grounds 14 and 15 give.
+  abbrev later : ℕ
+  later = first (runGrounds n s payload)
+
+  -- The verdict is the judge's, or what they give.
+  verdict-past : first (gs ++ runGrounds n s payload) ≡ past (first gs) later
+  verdict-past = first-append gs (runGrounds n s payload) ok
+
+  -- Where the judge accepts it is what they give.
+  pub verdict-judged : first gs ≡ 0 → first (gs ++ runGrounds n s payload) ≡ first (runGrounds n s payload)
+  verdict-judged e = verdict-past ∙ rw e
+
+  -- It is 0 only where the judge accepts, the state is below n and the payload is not too long.
+  pub verdict-clear : first (gs ++ runGrounds n s payload) ≡ 0 → (first gs ≡ 0) × (s < n) × (length payload ≤ 65536)
+  verdict-clear e = passed (first gs) (leb n s) refl (ltb 65536 (length payload)) refl (sym verdict-past ∙ e)
+    where
+      passed : (v : ℕ) (p : Bool) → leb n s ≡ p → (q : Bool) → ltb 65536 (length payload) ≡ q → past v (cond p 14 (cond q 15 0)) ≡ 0
+          → (v ≡ 0) × (s < n) × (length payload ≤ 65536)
+      passed zero false ep false eq z = (refl, leb-false n s ep, ltb-false 65536 (length payload) eq)
+      passed zero false ep true eq z = absurd (omega arith)
+      passed zero true ep q eq z = absurd (omega arith)
+      passed (suc v) p ep q eq z = absurd (omega arith)
+
+  module _ (r : Run) (room : List ℕ) where
+    -- What is answered and left.
+    abbrev outcome : Scanned
+    outcome = scanning (first (gs ++ runGrounds n s payload)) r room
+
+    -- A refusal answers its number and zeros, and leaves the room.
+    refused : (v number taken state reports hops : ℕ) → first (gs ++ runGrounds n s payload) ≡ v → ¬ (v ≡ 0) → Zeros v number taken state reports hops
+        → IsScanned outcome number taken state reports hops room
+    refused v number taken state reports hops e z (p, q, a, b, c) = rw (p, q, a, b, c, e) (refusing v r room z)
+
+    -- The judge refuses.
+    pub judge-refuses : (v number taken state reports hops : ℕ) → v ≡ first gs → ¬ (v ≡ 0) → Zeros v number taken state reports hops → IsScanned outcome number taken state reports hops room
+    judge-refuses v number taken state reports hops e z = refused v number taken state reports hops (verdict-past ∙ rw (← e) (go v z)) z
+      where
+        go : (v : ℕ) → ¬ (v ≡ 0) → past v later ≡ v
+        go zero z = absurd (z refl)
+        go (suc v) z = refl
+
+    module _ (judged : first gs ≡ 0) where
+      -- The state is not below n.
+      pub state-refuses : (number taken state reports hops : ℕ) → n ≤ s → Zeros 14 number taken state reports hops → IsScanned outcome number taken state reports hops room
+      state-refuses number taken state reports hops h = refused 14 number taken state reports hops (verdict-past ∙ rw (judged, le-leb n s h)) (λ z. omega arith)
+
+      module _ (inside : s < n) where
+        -- The payload is over 65,536 bytes.
+        pub payload-refuses : (number taken state reports hops : ℕ) → 65536 < length payload → Zeros 15 number taken state reports hops → IsScanned outcome number taken state reports hops room
+        payload-refuses number taken state reports hops h =
+            refused 15 number taken state reports hops (verdict-past ∙ rw (judged, lt-leb n s inside, lt-ltb 65536 (length payload) h)) (λ z. omega arith)
+
+        -- No ground applies: the scan's four numbers are answered, and its reports left in the room.
+        pub outcome-done : length payload ≤ 65536 → outcome ≡ scanning 0 r room
+        outcome-done h =
+            let none : first (gs ++ runGrounds n s payload) ≡ 0 = verdict-past ∙ rw (judged, lt-leb n s inside, le-ltb 65536 (length payload) h) in
+            ap (λ (v : ℕ). scanning v r room) none
+
+    -- What is known where 0 is answered: the judge accepts, the state is below n, the payload is not too long, and the numbers and the room are the scan's.
+    pub outcome-accepts : outcome .number ≡ 0 → (first gs ≡ 0) × (s < n) × (length payload ≤ 65536) × (outcome ≡ scanning 0 r room)
+    outcome-accepts e =
+        let none = sym (scanning-number (first (gs ++ runGrounds n s payload)) r room) ∙ e in
+        let (i, j, k) = verdict-clear none in
+        (i, j, k, ap (λ (v : ℕ). scanning v r room) none)

@@ -1,0 +1,73 @@
+// The plain walk: table, state, payload, room for reports. It is the scan without an image, so it makes no hops.
+ghost use mathlib.Core.Path.{_≡_};
+ghost use Prim.Native.Nat.{_≤_, _<_};
+ghost use lib.ListN.{length};
+ghost use Rattle.paper.specs.Table.{states, classes};
+ghost use Rattle.paper.specs.Scan.{walkOf};
+ghost use Rattle.paper.specs.Operations.{scanning};
+ghost use Rattle.paper.specs.Promises.{IsScanned, Walks};
+ghost use Rattle.facts.proofs.TableFacts.{AcceptedTable};
+
+// The walk of an accepted table. It stops before the first byte whose report has no room.
+fn walk_accepted(
+    table: &[u8],
+    n: usize,
+    k: usize,
+    state: usize,
+    payload: &[u8],
+    room: &mut [u8],
+) -> answers::Scanned
+    requires { ⌜ AcceptedTable (now table) × (n ≡ states (now table)) × (k ≡ classes (now table)) × (state < n) × (length (now payload) ≤ 65536) ⌝ }
+    ensures { λ r. ⌜ IsScanned (scanning 0 (walkOf (now (table .entry)) state (now (payload .entry)) (length (now (room .entry)))) (now (room .entry))) (r .refused) (r .taken) (r .state) (r .reports) (r .hops) (now (room .exit)) ⌝ }
+{
+    let most = room.len() / 6;
+    let mut s = state;
+    let mut reports = 0;
+    let mut i = 0;
+    while i < payload.len() {
+        let class = words::wide(table[6 + words::wide(payload[i]) as usize]) as usize;
+        let next = table::next_state(table, n, k, s, class) as usize;
+        let label = words::get16(table, 262 + 2 * next);
+        if label != 0 {
+            if most <= reports {
+                return answers::Scanned {
+                    refused: 0,
+                    taken: i as u32,
+                    state: s as u32,
+                    reports: reports as u32,
+                    hops: 0,
+                };
+            }
+            running::put_report(room, 6 * reports, i as u32, label);
+            reports += 1;
+        }
+        s = next;
+        i += 1;
+    }
+    answers::Scanned {
+        refused: 0,
+        taken: i as u32,
+        state: s as u32,
+        reports: reports as u32,
+        hops: 0,
+    }
+}
+
+// Walk: table, state, payload, room for reports.
+pub fn walk(table: &[u8], state: u32, payload: &[u8], room: &mut [u8]) -> answers::Scanned
+    ensures { λ r. ⌜ Walks (now (table .entry)) state (now (payload .entry)) (now (room .entry)) (r .refused) (r .taken) (r .state) (r .reports) (r .hops) (now (room .exit)) ⌝ }
+{
+    let number = table::judge_table(table);
+    if number != 0 {
+        return answers::not_scanned(number);
+    }
+    let n = words::get16(table, 0) as usize;
+    if n <= state as usize {
+        return answers::not_scanned(14);
+    }
+    if 65536 < payload.len() {
+        return answers::not_scanned(15);
+    }
+    let k = words::get16(table, 2) as usize;
+    walk_accepted(table, n, k, state as usize, payload, room)
+}
