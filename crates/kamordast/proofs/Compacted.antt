@@ -3,6 +3,7 @@ use mathlib.Core.Path.{_≡_, refl, sym, ap, _∙_}
 use mathlib.Core.List.{List, [], _∷_, _++_}
 use mathlib.Core.Option.{Option, none}
 use Prim.Native.Nat.{ℕ, _+_, _*_, _/_, _≤_, _<_}
+use native.Mathlib.Omega.{arith}
 use lib.Dec.{ltb}
 use lib.ListN.{length}
 use Rattle.paper.specs.Below.{howMany, given}
@@ -18,14 +19,15 @@ use Rattle.paper.specs.Roots.{GoesBefore}
 use Rattle.paper.specs.Sentences.{Ends}
 use Rattle.paper.specs.Operations.{judgeImage, Built, result, building, compacted, compactGrounds, compact}
 use Rattle.paper.proofs.Chain.{chain-ends}
-use Rattle.paper.proofs.Counts.{count-same}
 use Rattle.paper.proofs.Orders.{defaults-few, defaults-toward}
 use Rattle.trees.proofs.Defaults.{defaults-chain, defaults-depth, tree-chains, tree-chain-met}
 use Rattle.trees.proofs.RootChosen.{no-default-chosen}
 use Rattle.trees.proofs.EntriesSum.{entries-sum}
+use Rattle.trees.proofs.Fewest.{transitions}
 use Rattle.trees.proofs.Bounds.{bound-zero, bound-free}
 use Rattle.trips.proofs.ImageOf.{reads, image-of-accepted, defaults-of-image}
 use Rattle.trips.proofs.ExpandsBack.{compact-leaves}
+use Rattle.kamordast.proofs.Transitions.{imageTransitions, image-transitions}
 
 module _ (t : List ℕ) (order D : ℕ) (room : List ℕ) (B : Bytes t) (e : compact t order D room .number ≡ 0) where
   -- The image that it leaves.
@@ -43,12 +45,6 @@ module _ (t : List ℕ) (order D : ℕ) (room : List ℕ) (B : Bytes t) (e : com
   compacted-defaults s h =
       let (w, W) = compact-leaves t order D room e in
       ap (λ (b : List ℕ). image.default b s) w ∙ defaults-of-image t (defaults t order D) B W s h
-
-  -- It has the table's states.
-  compacted-states : image.states left ≡ states t
-  compacted-states =
-      let (w, W) = compact-leaves t order D room e in
-      ap (λ (b : List ℕ). image.states b) w ∙ sym (reads t (defaults t order D) B W .view-is .states-same)
 
   module _ (few : order ≤ 2) where
     -- In the orders 0, 1 and 2 its defaults are the forest's.
@@ -86,10 +82,8 @@ module _ (t : List ℕ) (order D : ℕ) (room : List ℕ) (B : Bytes t) (e : com
     pub compacted-entries : image.entries left + (howMany (image.states left) (λ s. given (image.default left s)) + weightsOf (weight t) (forest t order D .added)) ≡ states t * classes t
     compacted-entries =
         let (w, W) = compact-leaves t order D room e in
-        let m = rw (defaults-few t order D few) at (ap (λ (b : List ℕ). image.entries b) w ∙ reads t (defaults t order D) B W .entries-are) in
-        let named = ap (λ (n : ℕ). howMany n (λ s. given (image.default left s))) compacted-states
-        ∙ count-same (states t) (λ s. given (image.default left s)) (λ s. given (towardRoot t order D s)) (λ s h. ap (λ (o : Option ℕ). given o) (compacted-forest s h)) in
-        rw (m, named) (entries-sum t order D)
+        let said : imageTransitions left ≡ transitions t (towardRoot t order D) = rw (w, image-transitions t (defaults t order D) B W) (ap (transitions t) (defaults-few t order D few)) in
+        omega (arith, said, entries-sum t order D)
 
 -- D 0 gives no defaults in the orders 0, 1 and 2.
 pub compacted-zero : (t : List ℕ) (order : ℕ) (room : List ℕ) → Bytes t → compact t order 0 room .number ≡ 0 → order ≤ 2

@@ -49,6 +49,7 @@ use Rattle.nearing.proofs.Scan as nearing
 use Rattle.kamordast.proofs.Scanned as scanned
 use Rattle.kamordast.proofs.Left as left
 use Rattle.kamordast.proofs.Compacted as compacted
+use Rattle.kamordast.proofs.Fewest as least
 
 -- Each operation's number is that of the first of its sentences that holds, 0 where none does.
 pub refusals-exact : ((t : List ℕ) (number : ℕ) → judgeTable t ≡ number ↔ FirstOf (tableSentences t) number)
@@ -191,6 +192,14 @@ pub entries-sum : (t : List ℕ) (order D : ℕ) (room : List ℕ) → Bytes t �
     → let b = result (compact t order D room) in
     image.entries b + (howMany (image.states b) (λ s. given (image.default b s)) + weightsOf (weight t) (forest t order D .added)) ≡ states t * classes t
 entries-sum = compacted.compacted-entries
+
+-- Of what compact leaves in the orders 0, 1 and 2 with D at n - 1 or more the entries stored plus the defaults in the records are the fewest:
+-- with no list of defaults that write accepts for the table does write leave fewer.
+pub fewest-entries : (t ds : List ℕ) (order D : ℕ) (room room′ : List ℕ) → Bytes t → order ≤ 2 → states t ≤ D + 1 → compact t order D room .number ≡ 0 → write t ds room′ .number ≡ 0
+    → let b = result (compact t order D room) in
+    let b′ = result (write t ds room′) in
+    image.entries b + howMany (image.states b) (λ s. given (image.default b s)) ≤ image.entries b′ + howMany (image.states b′) (λ s. given (image.default b′ s))
+fewest-entries = least.fewest-entries
 
 -- D 0 gives no defaults in the orders 0, 1 and 2.
 pub bound-zero : (t : List ℕ) (order : ℕ) (room : List ℕ) → Bytes t → compact t order 0 room .number ≡ 0 → order ≤ 2

@@ -1,6 +1,5 @@
 -- Stored entries, plus defaults, plus the weights of the pairs added, equal n times k.
 use mathlib.Core.Path.{_≡_, refl, sym, ap, _∙_}
-use mathlib.Core.Bool.{true}
 use mathlib.Core.Logic.{inl, inr}
 use mathlib.Core.List.{List}
 use mathlib.Core.Option.{Option, none, some}
@@ -12,15 +11,16 @@ use lib.ListN.{length}
 use borrow.Author.Tests.{eq-eqb, ne-eqb}
 use Rattle.paper.specs.Below.{sum, howMany, bit, given}
 use Rattle.paper.specs.Table.{states, classes, next}
-use Rattle.paper.specs.Results.{differs, entriesOf}
+use Rattle.paper.specs.Results.{entriesOf}
 use Rattle.paper.specs.Forest.{Trees, weight, singles, joined, weightsOf, lean, forest, towardRoot}
 use Rattle.paper.proofs.Sums.{sum-same, sum-add, sum-constant}
-use Rattle.paper.proofs.Counts.{count-same, count-both, count-all, length-passed}
+use Rattle.paper.proofs.Counts.{count-same}
 use Rattle.trees.proofs.Points.{pointsTo-some}
 use Rattle.trees.proofs.Greedy.{Keeps, forest-keeps}
 use Rattle.trees.proofs.Grown.{Grown, singles-grown, added-grown}
 use Rattle.trees.proofs.Edges.{Neighbours, joined-neighbours-other}
 use Rattle.trees.proofs.EdgeSums.{aroundSum, around-singles, around-joined}
+use Rattle.trees.proofs.StateEntries.{stored-root, stored-shared}
 use Rattle.trees.proofs.FallSums.{defaultValue, fallSum, around-falls}
 
 -- Two numbers are equal either way round.
@@ -33,7 +33,7 @@ equal-turned a b =
 
 module _ (t : List ℕ) where
   -- The weight of a pair is the same from both states.
-  weight-turned : (u v : ℕ) → weight t u v ≡ weight t v u
+  pub weight-turned : (u v : ℕ) → weight t u v ≡ weight t v u
   unfolding weight
   weight-turned u v =
       ap (λ (x : ℕ). x - 1) (count-same (classes t) (λ c. eqb (next t u c) (next t v c)) (λ c. eqb (next t v c) (next t u c)) (λ c h. equal-turned (next t u c) (next t v c)))
@@ -97,19 +97,14 @@ module _ (t : List ℕ) where
         let (_, N) = pointsTo-some (states t) (lean (states t)) (forest t order D) s d e in
         forest-weighed .heavy s d (N .mate, N .step)
 
-    -- The classes in which two states differ, one, and their weight, make k.
-    differ-sum : (s d : ℕ) → 1 ≤ weight t s d → howMany (classes t) (λ c. differs t (towardRoot t order D) s c (some d)) + (1 + weight t s d) ≡ classes t
-    unfolding weight
-    differ-sum s d h = omega (arith, h, count-both (classes t) (λ c. eqb (next t s c) (next t d c)))
-
     -- What a state stores, whether it has a default, and the weight of the two make k.
     state-sum : (s : ℕ) → length (entriesOf t (towardRoot t order D) s) + (bit (given (towardRoot t order D s)) + defaultValue (towardRoot t order D s) (weight t s)) ≡ classes t
-    unfolding entriesOf
-    state-sum s = ap (λ (l : ℕ). l + (bit (given (towardRoot t order D s)) + defaultValue (towardRoot t order D s) (weight t s))) (length-passed (classes t) (λ c. differs t (towardRoot t order D) s c (towardRoot t order D s)) (λ c. (c, next t s c))) ∙ go (towardRoot t order D s) refl
+    unfolding weight
+    state-sum s = go (towardRoot t order D s) refl
       where
-        go : (o : Option ℕ) → towardRoot t order D s ≡ o → howMany (classes t) (λ c. differs t (towardRoot t order D) s c o) + (bit (given o) + defaultValue o (weight t s)) ≡ classes t
-        go none q = omega (arith, count-all (classes t) (λ c. true) (λ c h. refl))
-        go (some d) q = differ-sum s d (default-heavy s d q)
+        go : (o : Option ℕ) → towardRoot t order D s ≡ o → length (entriesOf t (towardRoot t order D) s) + (bit (given o) + defaultValue o (weight t s)) ≡ classes t
+        go none q = omega (arith, stored-root t (towardRoot t order D) s q)
+        go (some d) q = omega (arith, stored-shared t (towardRoot t order D) s d q, default-heavy s d q)
 
 -- Stored entries, plus defaults, plus the weights of the pairs added, equal n times k.
 pub entries-sum : (t : List ℕ) (order D : ℕ)

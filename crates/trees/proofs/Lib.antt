@@ -4,6 +4,8 @@ pub mod JoinMetric
 pub mod Inside
 pub mod Named
 pub mod TreeCount
+pub mod Onto
+pub mod StepsWithin
 pub mod InTree
 pub mod Farthest
 pub mod Longest
@@ -29,4 +31,9 @@ pub mod FallSums
 pub mod Depth
 pub mod Defaults
 pub mod Bounds
+pub mod StateEntries
 pub mod EntriesSum
+pub mod LayerSums
+pub mod Settled
+pub mod Outweigh
+pub mod Fewest
