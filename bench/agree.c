@@ -1,4 +1,4 @@
-/* The plain C beside the archive on small tables and images, sound ones and damaged ones: both must accept or refuse alike, with the same result. */
+/* The plain C beside the archive on small tables and images of both editions, sound ones and damaged ones: both must accept or refuse alike, with the same result. */
 #include <stdio.h>
 #include <string.h>
 
@@ -8,7 +8,12 @@
 enum { CASES = 10000, ROOM = 8192 };
 
 static uint8_t table[ROOM], image[ROOM], list[64], by_archive[ROOM], by_c[ROOM];
-static uint32_t grounds[19];
+static uint32_t grounds[20];
+
+/* Plain C has a function for each edition; which it is says the first word, and what is too short for one is refused by either. */
+static int second(const uint8_t *bytes, size_t length) { return length >= 2 && edition_in(bytes) == 2; }
+
+#define IN_EDITION(operation, bytes, length) (second(bytes, length) ? plain_second_##operation : plain_##operation)
 
 /* Two answers with their rooms are one. */
 static void same(const char *operation, kamordast_built a, kamordast_built b, uint32_t number) {
@@ -18,9 +23,9 @@ static void same(const char *operation, kamordast_built a, kamordast_built b, ui
 
 /* The archive's walk is C's where the table is accepted, and is refused by the judge's number where not: in C what judges and what walks are two functions. */
 static void same_walk(size_t length, uint32_t state, const uint8_t *payload, size_t bytes, size_t room_length, uint32_t number) {
-    kamordast_scanned a = kamordast_walk(table, length, state, payload, bytes, by_archive, room_length), b = {plain_judge_table(table, length), 0, 0, 0, 0};
-    if (!b.refused && state >= number16(table, 0)) b.refused = 14;
-    if (!b.refused) b = plain_walk(table, length, state, payload, bytes, by_c, room_length);
+    kamordast_scanned a = kamordast_walk(table, length, state, payload, bytes, by_archive, room_length), b = {IN_EDITION(judge_table, table, length)(table, length), 0, 0, 0, 0};
+    if (!b.refused && state >= states_in(table)) b.refused = 14;
+    if (!b.refused) b = IN_EDITION(walk, table, length)(table, length, state, payload, bytes, by_c, room_length);
     if (memcmp(&a, &b, sizeof a) || memcmp(by_archive, by_c, ROOM)) fail("walk", number);
     grounds[a.refused]++;
 }
@@ -34,7 +39,7 @@ int main(void) {
     seed(3);
     for (uint32_t number = 0; number < CASES; number++) {
         uint32_t n = 1 + below(6), k = 1 + below(9), bound = below(8), alike = 100 + below(157);
-        size_t length = number % 3 ? make_table(table, n, k, alike) : make_levels(table, n, k, alike, 1 + below(n), 1 + number % 2);
+        size_t length = either_edition(table, number % 3 ? make_table(table, n, k, alike) : make_levels(table, n, k, alike, 1 + below(n), 1 + number % 2));
         size_t list_length = 2 * n, room_length = below(8) ? ROOM : below(700);
         make_defaults(list, n, 200);
         if (below(4) == 0) set16(list, 2 * below(n), below(n));
@@ -46,24 +51,32 @@ int main(void) {
         }
         memset(by_archive, 0, ROOM);
         memset(by_c, 0, ROOM);
-        same("judge a table", (kamordast_built){kamordast_judge_table(table, length), 0}, (kamordast_built){plain_judge_table(table, length), 0}, number);
+        same("judge a table", (kamordast_built){kamordast_judge_table(table, length), 0}, (kamordast_built){IN_EDITION(judge_table, table, length)(table, length), 0}, number);
         for (uint32_t order = 0; order <= 4; order++)
             same("compact", kamordast_compact_in_order(table, length, order, (uint16_t)bound, by_archive, room_length),
-                 plain_compact(table, length, order, bound, number % 2, by_c, room_length), number);
+                 IN_EDITION(compact, table, length)(table, length, order, bound, number % 2, by_c, room_length), number);
         uint8_t payload[64];
         for (size_t i = 0; i < sizeof payload; i++) payload[i] = (uint8_t)below(256);
         same_walk(length, below(n + 1), payload, below(65), room_length % 400, number);
-        same("write", kamordast_write(table, length, list, list_length, by_archive, room_length), plain_write(table, length, list, list_length, by_c, room_length), number);
+        same("write", kamordast_write(table, length, list, list_length, by_archive, room_length), IN_EDITION(write, table, length)(table, length, list, list_length, by_c, room_length),
+             number);
         if (built.refused) continue;
         if (below(3)) damage(image, below(8) ? 268 : 0, built.length - (below(8) ? 12 : 0));
         if (below(9) == 0) damage(image, 6, 8); /* depth */
         if (below(9) == 0) damage(image, built.length - 4, built.length - 2); /* worst */
+        if (below(20) == 0) image[1] ^= 128; /* the other edition */
         if (below(8)) mend_check_word(image, built.length);
-        same("judge an image", (kamordast_built){kamordast_judge_image(image, built.length), 0}, (kamordast_built){plain_judge_image(image, built.length), 0}, number);
-        same("expand", kamordast_expand(image, built.length, by_archive, room_length), plain_expand(image, built.length, by_c, room_length), number);
+        uint32_t judged = IN_EDITION(judge_image, image, built.length)(image, built.length);
+        same("judge an image", (kamordast_built){kamordast_judge_image(image, built.length), 0}, (kamordast_built){judged, 0}, number);
+        same("expand", kamordast_expand(image, built.length, by_archive, room_length), IN_EDITION(expand, image, built.length)(image, built.length, by_c, room_length), number);
+        if (judged) continue;
+        uint32_t state = below(states_in(image));
+        kamordast_scanned a = kamordast_scan(image, built.length, state, payload, 64, by_archive, room_length % 400);
+        kamordast_scanned b = IN_EDITION(scan, image, built.length)(image, built.length, state, payload, 64, by_c, room_length % 400);
+        if (memcmp(&a, &b, sizeof a) || memcmp(by_archive, by_c, ROOM)) fail("scan", number);
     }
     printf("plain C and the archive agree on %u small cases; answers by number:", (unsigned)CASES);
-    for (uint32_t ground = 0; ground < 19; ground++)
+    for (uint32_t ground = 0; ground < 20; ground++)
         if (grounds[ground]) printf(" %u: %u", (unsigned)ground, (unsigned)grounds[ground]);
     printf("\n");
     return 0;

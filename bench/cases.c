@@ -1,4 +1,4 @@
-/* The cases: word lists, the largest tables, and images made to hurt. */
+/* The cases: word lists in both editions, the largest tables, and images made to hurt. */
 #include "cases.h"
 
 #include <stdio.h>
@@ -15,11 +15,11 @@ static word_list list;
 static void use_compacted(uint32_t order, uint32_t bound) {
     kamordast_built built = kamordast_compact_in_order(given.table, given.table_length, order, (uint16_t)bound, given.image, sizeof given.image);
     if (built.refused) fail("the table is refused", built.refused);
-    uint32_t n = number16(given.image, 0);
+    uint32_t n = states_in(given.image);
     given.bound = bound;
     given.image_length = built.length;
     given.defaults_length = 2 * n;
-    for (uint32_t s = 0; s < n; s++) memcpy(given.defaults + 2 * s, given.image + 268 + 2 * n + 4 * s, 2);
+    for (uint32_t s = 0; s < n; s++) memcpy(given.defaults + 2 * s, given.image + records_in(given.image) + 4 * s, 2);
 }
 
 /* The image of the table with the list. */
@@ -35,6 +35,42 @@ void use_words(uint32_t k, uint32_t bound) {
     given.table_length = make_word_list(&list, k, given.table);
     use_compacted(0, bound);
     snprintf(case_name, sizeof case_name, "words, n %u, k %u, D %u", (unsigned)number16(given.table, 0), (unsigned)k, (unsigned)bound);
+}
+
+/* Makes the table at hand one of edition 2: a state that had a label has one to four, or each state 16. */
+static void into_lists(int full) {
+    uint32_t n = states_in(given.table), behind = 0;
+    uint16_t labels[512], counts[512];
+    size_t rows = 262 + 2 * (size_t)n, at = rows;
+    for (uint32_t s = 0; s < n; s++) {
+        labels[s] = (uint16_t)number16(given.table, 262 + 2 * s);
+        counts[s] = (uint16_t)(full ? 16 : labels[s] ? 1 + labels[s] % 4 : 0);
+        behind += counts[s];
+        set16(given.table, 262 + 2 * s, counts[s]);
+    }
+    memmove(given.table + rows + 2 * behind, given.table + rows, given.table_length - rows);
+    for (uint32_t s = 0; s < n; s++)
+        for (uint32_t i = 0; i < counts[s]; i++, at += 2) set16(given.table, at, (full ? s : 4u * labels[s]) + i + 1);
+    set16(given.table, 0, 32768 + n);
+    given.table_length += 2 * behind;
+}
+
+void use_lists(uint32_t k, uint32_t bound) {
+    given.table_length = make_word_list(&list, k, given.table);
+    into_lists(0);
+    use_compacted(0, bound);
+    snprintf(case_name, sizeof case_name, "lists, n %u, k %u, D %u", (unsigned)states_in(given.table), (unsigned)k, (unsigned)bound);
+}
+
+void use_full_lists(uint32_t bound) {
+    seed(7);
+    given.table_length = make_table(given.table, 512, 256, 200);
+    into_lists(1);
+    use_compacted(0, bound);
+    snprintf(case_name, sizeof case_name, "full lists, n 512, k 256, D %u", (unsigned)bound);
+    given.state = 0;
+    given.payload_length = 4096;
+    for (size_t i = 0; i < given.payload_length; i++) given.payload[i] = (uint8_t)below(256);
 }
 
 void use_payload(int near) {

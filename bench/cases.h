@@ -11,6 +11,12 @@ extern char case_name[96];
 void use_words(uint32_t k, uint32_t bound);
 void use_payload(int near);
 
+/* The same word list in edition 2, where a word has one to four labels. */
+void use_lists(uint32_t k, uint32_t bound);
+
+/* The largest table of edition 2, of random rows and with 16 labels on each state, compacted with a bound; and a payload of 4,096 bytes for it, each of which gives 16 reports. */
+void use_full_lists(uint32_t bound);
+
 /* The largest table, n 512 and k 256, with equal, path or random rows, compacted with a bound. */
 void use_largest(const char *shape, uint32_t bound);
 

@@ -34,12 +34,11 @@ static void row(const operation *o) {
     double ms[3] = {0, 0, 0};
     timed(acts, o->less ? 3 : 2, ms);
     /* A table is judged and walked without a bound and without an image. */
-    int plain = o == &judging_a_table || o == &walk || o == &walk_with_judging;
-    const char *bound = plain ? strstr(case_name, ", D") : NULL;
+    const char *bound = o->on_table ? strstr(case_name, ", D") : NULL;
     const char *rest = bound ? bound + strcspn(bound + 2, ",") + 2 : "";
     printf("%u\t%s\t%.*s%s", (unsigned)rows, o->name, (int)(bound ? bound - case_name : (long)sizeof case_name), case_name, rest);
     print_bytes(given.table_length);
-    print_bytes(plain ? 0 : given.image_length);
+    print_bytes(o->on_table ? 0 : given.image_length);
     printf("\t%.6f\t%.6f", ms[0] - ms[2], ms[1]);
     /* The stack of a scan or a walk is that of the whole operation. */
     print_bytes(o->less ? 0 : stack_of(o->archive));
@@ -118,6 +117,29 @@ static void toward_rows(const operation *o) {
     row(o);
 }
 
+/* An operation on both word lists in edition 2, and on the largest table with 16 labels on each state. */
+static void list_rows(const operation *o) {
+    for (uint32_t k = 27; k <= 209; k += 182) {
+        use_lists(k, 2);
+        row(o);
+    }
+    use_full_lists(3);
+    row(o);
+}
+
+/* A scan or a walk of the same, the word lists with both payloads and a scan with both bounds; last the bytes that give 16 reports each. */
+static void list_runs(const operation *o) {
+    for (uint32_t k = 27; k <= 209; k += 182)
+        for (uint32_t bound = 2; bound <= (o->on_table ? 2 : 8); bound += 6)
+            for (int near = 0; near < 2; near++) {
+                use_lists(k, bound);
+                use_payload(near);
+                row(o);
+            }
+    use_full_lists(3);
+    row(o);
+}
+
 int main(void) {
     word_rows(&judging_a_table, 2);
     random_row(&judging_a_table);
@@ -150,5 +172,14 @@ int main(void) {
     use_detour();
     row(&scan);
     row(&scan_with_judging);
+    list_rows(&second_judging_a_table);
+    list_rows(&second_judging_an_image);
+    list_rows(&second_compact);
+    list_rows(&second_write);
+    list_rows(&second_expand);
+    list_runs(&second_scan);
+    list_runs(&second_scan_with_judging);
+    list_runs(&second_walk);
+    list_runs(&second_walk_with_judging);
     return 0;
 }

@@ -59,20 +59,48 @@ static void judge_and_walk_c(void) {
     by_c.numbers = refused ? answered(refused) : plain_walk(TABLE, PAYLOAD, ROOM(by_c));
 }
 
-const operation judging_a_table = {"judge a table", judge_table_archive, judge_table_c, NULL};
-const operation judging_an_image = {"judge an image", judge_image_archive, judge_image_c, NULL};
-const operation compact = {"compact", compact_archive, compact_c, NULL};
-const operation compact_seeking = {"compact, C seeking", compact_archive, compact_c_seeking, NULL};
-const operation compact_bgs = {"compact, order 1", compact_bgs_archive, compact_bgs_c, NULL};
-const operation compact_ref = {"compact, order 2", compact_ref_archive, compact_ref_c, NULL};
-const operation compact_toward = {"compact, order 3", compact_toward_archive, compact_toward_c, NULL};
-const operation compact_toward_sparing = {"order 3, C sparing", compact_toward_archive, compact_toward_c_sparing, NULL};
-const operation write_with_a_list = {"write", write_archive, write_c, NULL};
-const operation expand = {"expand", expand_archive, expand_c, NULL};
-const operation scan = {"scan, no judging", scan_archive, scan_c, judge_image_archive};
-const operation scan_with_judging = {"scan with judging", scan_archive, judge_and_scan_c, NULL};
-const operation walk = {"walk, no judging", walk_archive, walk_c, walk_nothing};
-const operation walk_with_judging = {"walk with judging", walk_archive, judge_and_walk_c, NULL};
+static void second_judge_table_c(void) { by_c.numbers = answered(plain_second_judge_table(TABLE)); }
+static void second_judge_image_c(void) { by_c.numbers = answered(plain_second_judge_image(IMAGE)); }
+static void second_compact_c(void) { by_c.numbers = built(plain_second_compact(TABLE, 0, given.bound, 0, ROOM(by_c))); }
+static void second_write_c(void) { by_c.numbers = built(plain_second_write(TABLE, DEFAULTS, ROOM(by_c))); }
+static void second_expand_c(void) { by_c.numbers = built(plain_second_expand(IMAGE, ROOM(by_c))); }
+static void second_scan_c(void) { by_c.numbers = plain_second_scan(IMAGE, PAYLOAD, ROOM(by_c)); }
+static void second_walk_c(void) { by_c.numbers = plain_second_walk(TABLE, PAYLOAD, ROOM(by_c)); }
+
+static void second_judge_and_scan_c(void) {
+    uint32_t refused = plain_second_judge_image(IMAGE);
+    by_c.numbers = refused ? answered(refused) : plain_second_scan(IMAGE, PAYLOAD, ROOM(by_c));
+}
+
+static void second_judge_and_walk_c(void) {
+    uint32_t refused = plain_second_judge_table(TABLE);
+    by_c.numbers = refused ? answered(refused) : plain_second_walk(TABLE, PAYLOAD, ROOM(by_c));
+}
+
+const operation judging_a_table = {"judge a table", judge_table_archive, judge_table_c, NULL, 1};
+const operation judging_an_image = {"judge an image", judge_image_archive, judge_image_c, NULL, 0};
+const operation compact = {"compact", compact_archive, compact_c, NULL, 0};
+const operation compact_seeking = {"compact, C seeking", compact_archive, compact_c_seeking, NULL, 0};
+const operation compact_bgs = {"compact, order 1", compact_bgs_archive, compact_bgs_c, NULL, 0};
+const operation compact_ref = {"compact, order 2", compact_ref_archive, compact_ref_c, NULL, 0};
+const operation compact_toward = {"compact, order 3", compact_toward_archive, compact_toward_c, NULL, 0};
+const operation compact_toward_sparing = {"order 3, C sparing", compact_toward_archive, compact_toward_c_sparing, NULL, 0};
+const operation write_with_a_list = {"write", write_archive, write_c, NULL, 0};
+const operation expand = {"expand", expand_archive, expand_c, NULL, 0};
+const operation scan = {"scan, no judging", scan_archive, scan_c, judge_image_archive, 0};
+const operation scan_with_judging = {"scan with judging", scan_archive, judge_and_scan_c, NULL, 0};
+const operation walk = {"walk, no judging", walk_archive, walk_c, walk_nothing, 1};
+const operation walk_with_judging = {"walk with judging", walk_archive, judge_and_walk_c, NULL, 1};
+
+const operation second_judging_a_table = {"judge a table", judge_table_archive, second_judge_table_c, NULL, 1};
+const operation second_judging_an_image = {"judge an image", judge_image_archive, second_judge_image_c, NULL, 0};
+const operation second_compact = {"compact", compact_archive, second_compact_c, NULL, 0};
+const operation second_write = {"write", write_archive, second_write_c, NULL, 0};
+const operation second_expand = {"expand", expand_archive, second_expand_c, NULL, 0};
+const operation second_scan = {"scan, no judging", scan_archive, second_scan_c, judge_image_archive, 0};
+const operation second_scan_with_judging = {"scan with judging", scan_archive, second_judge_and_scan_c, NULL, 0};
+const operation second_walk = {"walk, no judging", walk_archive, second_walk_c, walk_nothing, 1};
+const operation second_walk_with_judging = {"walk with judging", walk_archive, second_judge_and_walk_c, NULL, 1};
 
 void compare(const operation *o) {
     if (by_archive.numbers.refused) fail(o->name, by_archive.numbers.refused);

@@ -21,14 +21,19 @@ typedef struct {
 extern inputs given;
 extern outcome by_archive, by_c;
 
-/* An operation; `less` is what is to be taken off the archive's figures, or NULL. */
+/* An operation; `less` is what is to be taken off the archive's figures, or NULL; `on_table` that it has neither a bound nor an image. */
 typedef struct {
     const char *name;
     action *archive, *c, *less;
+    int on_table;
 } operation;
 
 extern const operation judging_a_table, judging_an_image, compact, compact_seeking, compact_bgs, compact_ref, compact_toward, compact_toward_sparing;
 extern const operation write_with_a_list, expand, scan, scan_with_judging, walk, walk_with_judging;
+
+/* The same on inputs of edition 2: of the archive the same functions, of plain C those of that edition. */
+extern const operation second_judging_a_table, second_judging_an_image, second_compact, second_write, second_expand;
+extern const operation second_scan, second_scan_with_judging, second_walk, second_walk_with_judging;
 
 /* Ends the program where the archive and C do not have the same outcome, or refuse. */
 void compare(const operation *o);

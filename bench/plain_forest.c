@@ -130,7 +130,7 @@ static inline int before(const joined_trees *f, const uint16_t *near, size_t x, 
 }
 
 void plain_defaults(const uint8_t *table, size_t length, uint32_t order, uint32_t bound, int seeking, uint16_t *defaults) {
-    size_t n = plain_number16(table), k = plain_number16(table + 2);
+    size_t n = PLAIN_N(table), k = plain_number16(table + 2);
     const uint8_t *rows = table + length - 2 * n * k;
     joined_trees f;
     if (order == 3 && seeking) {

@@ -41,19 +41,20 @@ static uint8_t *put_row(const uint8_t *own, const uint8_t *other, size_t k, uint
     return entry;
 }
 
-kamordast_built plain_image(const uint8_t *table, size_t length, const uint16_t *defaults, const plain_chains *chains, uint8_t *room, size_t room_length) {
-    size_t n = plain_number16(table), k = plain_number16(table + 2), m = 0;
+/* Classes and labels stand in the image as in the table; edition 2 has more of them. */
+EACH_EDITION kamordast_built image_of(const uint8_t *table, size_t length, const uint16_t *defaults, const plain_chains *chains, uint8_t *room, size_t room_length, int second) {
+    size_t n = second ? plain_states(table) : plain_number16(table), k = plain_number16(table + 2), m = 0, labels = second ? length - 262 - 2 * n - 2 * n * k : 0;
     const uint8_t *rows = table + length - 2 * n * k;
     uint16_t counts[512];
     uint32_t worst = tally(rows, chains, n, k, counts);
     for (size_t s = 0; s < n; s++) m += counts[s];
-    size_t whole = 280 + 6 * n + 4 * m;
+    size_t whole = 280 + 6 * n + labels + 4 * m;
     if (room_length < whole) return (kamordast_built){16, 0};
     memcpy(room, table, 6);
     plain_put16(room + 6, chains->depth);
     plain_put32(room + 8, (uint32_t)m);
-    memcpy(room + 12, table + 6, 256 + 2 * n);
-    uint8_t *records = room + 268 + 2 * n, *entry = records + 4 * n;
+    memcpy(room + 12, table + 6, 256 + 2 * n + labels);
+    uint8_t *records = room + 268 + 2 * n + labels, *entry = records + 4 * n;
     for (size_t s = 0; s < n; s++) {
         plain_put16(records + 4 * s, defaults[s]);
         plain_put16(records + 4 * s + 2, counts[s]);
@@ -64,4 +65,12 @@ kamordast_built plain_image(const uint8_t *table, size_t length, const uint16_t 
     plain_put16(entry + 8, worst);
     plain_put16(entry + 10, plain_check_word(room, whole - 2));
     return (kamordast_built){0, (uint32_t)whole};
+}
+
+kamordast_built plain_image(const uint8_t *table, size_t length, const uint16_t *defaults, const plain_chains *chains, uint8_t *room, size_t room_length) {
+    return image_of(table, length, defaults, chains, room, room_length, 0);
+}
+
+kamordast_built plain_second_image(const uint8_t *table, size_t length, const uint16_t *defaults, const plain_chains *chains, uint8_t *room, size_t room_length) {
+    return image_of(table, length, defaults, chains, room, room_length, 1);
 }

@@ -1,4 +1,4 @@
-/* Judging an image in C: grounds 1 to 13. Grounds 12 and 13 go class by class over the states, each after its default, so that every entry is read once
+/* Judging an image in C: grounds 1 to 13, in edition 2 with 19 before 3 and behind 7. Grounds 12 and 13 go class by class over the states, each after its default, so that every entry is read once
  * and every pair of state and class is touched once. */
 #include "plain.h"
 
@@ -71,16 +71,20 @@ static uint32_t sweep(const uint8_t *records, const uint8_t *entries, const plai
     return 0;
 }
 
-uint32_t plain_judge_image(const uint8_t *image, size_t length) {
+EACH_EDITION uint32_t judge_image(const uint8_t *image, size_t length, int second) {
     if (length < 24) return 1;
-    size_t n = plain_number16(image), k = plain_number16(image + 2), m = plain_number32(image + 8);
+    size_t n = second ? plain_states(image) : plain_number16(image), k = plain_number16(image + 2), m = plain_number32(image + 8);
     if (n < 1 || n > 512 || k < 1 || k > 256 || m < k || m > n * k) return 2;
-    if (length != 280 + 6 * n + 4 * m) return 3;
+    if (second && length < 268 + 2 * n) return 3;
+    long labels = second ? plain_labels(image + 268, n) : 0;
+    if (second && labels < 0) return 19;
+    if (length != 280 + 6 * n + 2 * (size_t)labels + 4 * m) return 3;
     if (plain_number32(image + length - 8) != length || plain_number32(image + length - 12) != 4 * m + 12) return 4;
     if (plain_number16(image + length - 2) != plain_check_word(image, length - 2)) return 5;
     if (plain_number16(image + 4) >= n) return 6;
     if (plain_classes_bad(image + 12, k)) return 7;
-    const uint8_t *records = image + 268 + 2 * n, *entries = records + 4 * n;
+    if (second && plain_labels_bad(image + 268, n)) return 19;
+    const uint8_t *records = image + 268 + 2 * n + 2 * labels, *entries = records + 4 * n;
     if (records_bad(records, n, k, m)) return 8;
     if (entry_classes_bad(records, entries, n, k)) return 9;
     if (next_states_bad(entries, m, n)) return 10;
@@ -92,3 +96,6 @@ uint32_t plain_judge_image(const uint8_t *image, size_t length) {
     if (sweep(records, entries, &chains, n, k, &worst)) return 12;
     return plain_number16(image + 6) != chains.depth || plain_number16(image + length - 4) != worst ? 13 : 0;
 }
+
+uint32_t plain_judge_image(const uint8_t *image, size_t length) { return judge_image(image, length, 0); }
+uint32_t plain_second_judge_image(const uint8_t *image, size_t length) { return judge_image(image, length, 1); }

@@ -1,5 +1,5 @@
 /* The tuned walk of an image in C: where each state's entries begin is found once, a root is looked up directly, other states are searched by halving
- * while more than eight entries are left and then in order. */
+ * while more than eight entries are left and then in order. In edition 2 where each state's labels begin is found once too. */
 #include "plain.h"
 
 /* An entry at most eight before the first whose class is not below the one asked. */
@@ -8,12 +8,13 @@ static const uint8_t *near(const uint8_t *entry, uint32_t count, uint32_t class)
     return entry;
 }
 
-kamordast_scanned plain_scan(const uint8_t *image, size_t length, uint32_t state, const uint8_t *payload, size_t bytes, uint8_t *room, size_t room_length) {
-    uint32_t n = plain_number16(image), k = plain_number16(image + 2), begins[513];
-    const uint8_t *records = image + 268 + 2 * n, *entries = records + 4 * n;
+EACH_EDITION kamordast_scanned scanned(const uint8_t *image, size_t length, uint32_t state, const uint8_t *payload, size_t bytes, uint8_t *room, size_t room_length, int second) {
+    uint32_t n = second ? (uint32_t)plain_states(image) : plain_number16(image), k = plain_number16(image + 2), begins[513];
+    const uint8_t *lists = image + 268 + 2 * n, *records = second ? image + length - 12 - 4 * plain_number32(image + 8) - 4 * n : lists, *entries = records + 4 * n;
     uint32_t most = (uint32_t)(room_length / 6);
+    uint16_t places[513];
     kamordast_scanned run = {0, 0, state, 0, 0};
-    (void)length;
+    if (second) plain_places(image + 268, n, places);
     begins[0] = 0;
     for (uint32_t s = 0; s < n; s++) begins[s + 1] = begins[s] + plain_number16(records + 4 * s + 2);
     for (size_t i = 0; i < bytes; i++) {
@@ -35,7 +36,11 @@ kamordast_scanned plain_scan(const uint8_t *image, size_t length, uint32_t state
             hops++;
         }
         uint32_t label = plain_number16(image + 268 + 2 * target);
-        if (label) {
+        if (label && second) {
+            if (most - run.reports < label) return run;
+            plain_put_reports(room + 6 * run.reports, i, lists + 2 * places[target], label);
+            run.reports += label;
+        } else if (label) {
             if (most <= run.reports) return run;
             uint8_t *report = room + 6 * run.reports++;
             plain_put32(report, (uint32_t)i);
@@ -46,4 +51,12 @@ kamordast_scanned plain_scan(const uint8_t *image, size_t length, uint32_t state
         run.taken++;
     }
     return run;
+}
+
+kamordast_scanned plain_scan(const uint8_t *image, size_t length, uint32_t state, const uint8_t *payload, size_t bytes, uint8_t *room, size_t room_length) {
+    return scanned(image, length, state, payload, bytes, room, room_length, 0);
+}
+
+kamordast_scanned plain_second_scan(const uint8_t *image, size_t length, uint32_t state, const uint8_t *payload, size_t bytes, uint8_t *room, size_t room_length) {
+    return scanned(image, length, state, payload, bytes, room, room_length, 1);
 }

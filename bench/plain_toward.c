@@ -30,7 +30,7 @@ static uint32_t weight_of(const uint8_t *rows, size_t k, size_t u, size_t v) {
 }
 
 void plain_toward(const uint8_t *table, size_t length, const uint8_t *weights, uint16_t *defaults) {
-    size_t n = plain_number16(table), k = plain_number16(table + 2);
+    size_t n = PLAIN_N(table), k = plain_number16(table + 2);
     const uint8_t *rows = table + length - 2 * n * k;
     uint16_t level[512];
     find_levels(rows, n, k, plain_number16(table + 4), level);

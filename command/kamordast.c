@@ -11,17 +11,17 @@
 #include "served.h"
 #include "status.h"
 
-static uint8_t input[LONGEST_IMAGE + 2], list[1024 + 2], payload[LONGEST_PAYLOAD + 2], room[6 * LONGEST_PAYLOAD + LONGEST_IMAGE];
+static uint8_t input[LONGEST_IMAGE + 2], list[1024 + 2], payload[LONGEST_PAYLOAD + 2], room[LONGEST_REPORTS + LONGEST_IMAGE];
 
 static const char help[] =
     "usage: kamordast COMMAND ...\n"
     "\n"
-    "  judge FILE                     is FILE an image, or a table?\n"
+    "  judge FILE                     is FILE an image, or a table? of what size and edition, with how many labels?\n"
     "  compact [--order N] TABLE BOUND IMAGE\n"
     "                                 the image of TABLE with path bound BOUND, 0 to 65535\n"
     "  write TABLE DEFAULTS IMAGE     the image of TABLE with a list of defaults, two bytes a state\n"
     "  expand IMAGE TABLE             the table of IMAGE\n"
-    "  scan IMAGE PAYLOAD [STATE]     the reports of PAYLOAD, from STATE or the start state\n"
+    "  scan IMAGE PAYLOAD [STATE]     the reports of PAYLOAD, from STATE or the start state, a line for each label of an offset\n"
     "  walk TABLE PAYLOAD [STATE]     the same by the table itself, without an image and without hops\n"
     "  served [--sort] IMAGE PAYLOAD  for each state how often it served and how often it ran; --sort: the one that served most first\n"
     "  bounds TABLE                   depth, worst, entries, defaults and bytes with bounds 0 to 3\n"
@@ -30,9 +30,11 @@ static const char help[] =
     "\n"
     "Orders of pairs of equal weight: 0 by pair (where none is named), 1 the shortest path over the pair (BGS), 2 the least growth (REF).\n"
     "Order 3 lets each state fall back toward the start: a whole payload from there costs no more hops than it has bytes, and BOUND changes nothing.\n"
+    "Edition 2 of tables and images has up to 16 labels on a state. Every command takes both editions, and an output file is of its input's.\n"
     "Example: kamordast compact --order 3 examples/words.table 0 words.image\n"
     "Example: kamordast served --sort words.image README.md\n"
     "Example: kamordast walk examples/words.table README.md\n"
+    "Example: kamordast walk examples/endings.table README.md\n"
     "Exit status: 0 done, 1 refused (the number and what to do on standard error), 2 usage, 3 file trouble, 4 a count that is not the scan's.\n"
     "A file is written beside its place, read back and judged before it gets its name.\n";
 
@@ -64,12 +66,14 @@ static int judge(const char *name) {
     size_t length = read_file(name, input, LONGEST_IMAGE);
     uint32_t as_image = kamordast_judge_image(input, length), as_table = kamordast_judge_table(input, length);
     if (as_image == 0) {
-        printf("%s: an image of %u states and %u classes, depth %u, worst %u, %u entries, %zu bytes\n", name, (unsigned)number16(input, 0), (unsigned)number16(input, 2),
-               (unsigned)number16(input, 6), (unsigned)number16(input, length - 4), (unsigned)number32(input, 8), length);
+        printf("%s: an image of %u states and %u classes, depth %u, worst %u, %u entries, %zu bytes, edition %u, %u labels\n", name, (unsigned)states_of(input),
+               (unsigned)number16(input, 2), (unsigned)number16(input, 6), (unsigned)number16(input, length - 4), (unsigned)number32(input, 8), length, (unsigned)edition_of(input),
+               (unsigned)labels_of(input, IMAGE_LABELS));
         return DONE;
     }
     if (as_table == 0) {
-        printf("%s: a table of %u states and %u classes, %zu bytes\n", name, (unsigned)number16(input, 0), (unsigned)number16(input, 2), length);
+        printf("%s: a table of %u states and %u classes, %zu bytes, edition %u, %u labels\n", name, (unsigned)states_of(input), (unsigned)number16(input, 2), length,
+               (unsigned)edition_of(input), (unsigned)labels_of(input, TABLE_LABELS));
         return DONE;
     }
     fprintf(stderr, "kamordast: %s: as an image refused %u: %s\n  what to do: %s\n", name, (unsigned)as_image, refusal_meaning(as_image), refusal_advice(as_image));
@@ -115,7 +119,7 @@ static int expand(const char *image, const char *table) {
 typedef kamordast_scanned runner(const uint8_t *, size_t, uint32_t, const uint8_t *, size_t, uint8_t *, size_t);
 typedef uint32_t judges(const uint8_t *, size_t);
 
-/* Scan and walk: a line for each report, and one of the numbers. */
+/* Scan and walk: a line for each report, so that an offset with several labels has several lines, and one of the numbers. */
 static int reports(judges *judged, runner *run, const char *from, size_t longest, const char *bytes, const char *state_word) {
     size_t length = read_file(from, input, longest);
     uint32_t refused = judged(input, length);
@@ -123,7 +127,7 @@ static int reports(judges *judged, runner *run, const char *from, size_t longest
     long state = state_word ? number_of(state_word, 4294967295L) : (long)number16(input, 4);
     if (state < 0) return usage("the state is a number from 0 to 4294967295");
     size_t payload_length = read_file(bytes, payload, LONGEST_PAYLOAD);
-    kamordast_scanned r = run(input, length, (uint32_t)state, payload, payload_length, room, 6 * LONGEST_PAYLOAD);
+    kamordast_scanned r = run(input, length, (uint32_t)state, payload, payload_length, room, LONGEST_REPORTS);
     if (r.refused) return refuse(r.refused == 15 ? bytes : state_word ? state_word : from, r.refused);
     for (uint32_t i = 0; i < r.reports; i++) printf("offset %u label %u\n", (unsigned)number32(room, 6 * (size_t)i), (unsigned)number16(room, 6 * (size_t)i + 4));
     printf("taken %u state %u reports %u hops %u\n", (unsigned)r.taken, (unsigned)r.state, (unsigned)r.reports, (unsigned)r.hops);
@@ -140,7 +144,7 @@ static int walk(const char *table, const char *bytes, const char *state_word) {
 
 /* How many states of the image in the room have a default. */
 static uint32_t defaults_in(size_t length) {
-    uint32_t used = 0, n = number16(room, 0);
+    uint32_t used = 0, n = states_of(room);
     for (uint32_t s = 0; s < n; s++) used += number16(room, records_at(room, length) + 4 * s) != NO_STATE;
     return used;
 }
@@ -164,13 +168,13 @@ static int forest(const char *order_word, const char *table, const char *bound_w
     int status = compacted(order_word, table, bound_word, &built);
     if (status != DONE) return status;
     if (built.refused) return refuse(refused_word(built, order_word, table), built.refused);
-    uint32_t n = number16(room, 0);
+    uint32_t n = states_of(room);
     size_t records = records_at(room, built.length);
     if (dot) printf("digraph forest {\n  rankdir = BT;\n  node [shape = circle];\n");
     for (uint32_t s = 0; s < n; s++) {
-        uint32_t d = number16(room, records + 4 * (size_t)s), count = number16(room, records + 4 * (size_t)s + 2), label = number16(input, 262 + 2 * (size_t)s);
+        uint32_t d = number16(room, records + 4 * (size_t)s), count = number16(room, records + 4 * (size_t)s + 2), labelled = number16(input, TABLE_LABELS + 2 * (size_t)s);
         if (dot) {
-            printf("  %u [label = \"%u\\n%u stored\"%s%s];\n", (unsigned)s, (unsigned)s, (unsigned)count, d == NO_STATE ? ", style = bold" : "", label ? ", peripheries = 2" : "");
+            printf("  %u [label = \"%u\\n%u stored\"%s%s];\n", (unsigned)s, (unsigned)s, (unsigned)count, d == NO_STATE ? ", style = bold" : "", labelled ? ", peripheries = 2" : "");
             if (d != NO_STATE) printf("  %u -> %u;\n", (unsigned)s, (unsigned)d);
         } else if (d == NO_STATE) {
             printf("%u root, stores %u\n", (unsigned)s, (unsigned)count);

@@ -10,7 +10,7 @@ static const struct {
     {"nothing is wrong", "nothing is to be done"},
     {"the file is too short to be a table or an image", "it is empty or was cut short: fetch it anew from its source"},
     {"the number of states, classes or entries is out of range", "this is no table or image, or its front is damaged: check that the right file was taken, then fetch it anew"},
-    {"the length is not the one that the counts give", "the file was cut short or has something after its end: compare its size with the source's and fetch it anew"},
+    {"the length is not the one that the counts give, or the file ends inside its counts of labels", "the file was cut short or has something after its end: compare its size with the source's and fetch it anew"},
     {"the trailer's length or distance back is wrong", "the end of the image is damaged or belongs to another image: fetch it anew and do not load it"},
     {"the check word differs", "a byte was altered on the way: fetch the image anew and do not load it"},
     {"the start state is not a state", "it was built wrongly: send it back to the rules desk"},
@@ -27,6 +27,7 @@ static const struct {
     {"the room for the result is too short", "give a larger room"},
     {0, 0}, /* 17 is not used */
     {"there is no such order", "take order 0, 1, 2 or 3; where none is named it is 0"},
+    {"a state has more than 16 labels, or a label that is 0 or not above the one before it", "it was built wrongly: send it back to the rules desk"},
 };
 
 static int known(uint32_t number) { return number < sizeof sheet / sizeof *sheet && sheet[number].meaning; }

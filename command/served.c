@@ -12,14 +12,14 @@
 #include "refusals.h"
 #include "status.h"
 
-static uint8_t image[LONGEST_IMAGE + 2], piece[LONGEST_PAYLOAD], reports[6 * LONGEST_PAYLOAD];
+static uint8_t image[LONGEST_IMAGE + 2], piece[LONGEST_PAYLOAD], reports[LONGEST_REPORTS];
 
 /* For each state its default, the next state that it stores for each class or NO_STATE, and the counts of the two columns. */
 static uint16_t fallback[512], stored[512][256];
 static uint64_t times_served[512], times_running[512];
 
 static void read_rows(size_t length) {
-    uint32_t n = number16(image, 0);
+    uint32_t n = states_of(image);
     size_t record = records_at(image, length), entry = entries_at(image, length);
     for (uint32_t s = 0; s < n; s++, record += 4) {
         for (uint32_t c = 0; c < 256; c++) stored[s][c] = NO_STATE;
@@ -98,7 +98,7 @@ int served(const char *image_name, const char *payload_name, int sorted) {
     /* All lines go out in one write: a reader who takes the first of them only does not end the run before the share is said. */
     static char lines[512 * 48];
     setvbuf(stdout, lines, _IOFBF, sizeof lines);
-    print_lines(number16(image, 0), sorted);
+    print_lines(states_of(image), sorted);
     fflush(stdout);
     say_share(payload_name, without_hop, all);
     return DONE;

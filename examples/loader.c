@@ -1,4 +1,4 @@
-/* A loader: reads an image from a file, has it judged, and only then uses it.
+/* A loader: reads an image of either edition from a file, has it judged, and only then uses it.
  *
  *     loader IMAGE
  *
@@ -9,9 +9,8 @@
 
 #include "kamordast.h"
 
-/* The largest image there can be: 280 + 6 n + 4 n k bytes with 512 states and 256 classes. One byte more tells a longer file. */
-enum { LARGEST = 280 + 6 * 512 + 4 * 512 * 256 };
-static uint8_t image[LARGEST + 1];
+/* Room for the largest image there can be, of either edition. One byte more tells a longer file. */
+static uint8_t image[KAMORDAST_LARGEST_IMAGE + 1];
 
 /* Why an image was refused, in a sentence; docs/OPERATORS.md says what to do. */
 static const char *const reasons[] = {
@@ -29,12 +28,13 @@ static const char *const reasons[] = {
     "a chain of defaults runs in a circle",
     "an entry says what the default's chain says already",
     "its depth or worst is not true",
+    [19] = "a state has more than 16 labels, or a label that is 0 or does not rise",
 };
 
-/* Stands for what a part does with an image that it trusts. */
+/* Stands for what a part does with an image that it trusts. Edition 2 has 32768 added to its first word. */
 static void take_into_use(const uint8_t *bytes, size_t length) {
-    unsigned states = bytes[0] + 256u * bytes[1], classes = bytes[2] + 256u * bytes[3], worst = bytes[length - 4] + 256u * bytes[length - 3];
-    printf("in use: %u states, %u classes, at most %u hops a byte\n", states, classes, worst);
+    unsigned first = bytes[0] + 256u * bytes[1], states = first % 32768, edition = first < 32768 ? 1 : 2, classes = bytes[2] + 256u * bytes[3], worst = bytes[length - 4] + 256u * bytes[length - 3];
+    printf("in use: %u states, %u classes, at most %u hops a byte, edition %u\n", states, classes, worst, edition);
 }
 
 int main(int count, char **words) {
@@ -56,7 +56,7 @@ int main(int count, char **words) {
     }
     uint32_t refused = kamordast_judge_image(image, length);
     if (refused != 0) {
-        fprintf(stderr, "%s: refused %u: %s\n", words[1], (unsigned)refused, refused < sizeof reasons / sizeof *reasons ? reasons[refused] : "unknown");
+        fprintf(stderr, "%s: refused %u: %s\n", words[1], (unsigned)refused, refused < sizeof reasons / sizeof *reasons && reasons[refused] ? reasons[refused] : "unknown");
         return 1;
     }
     take_into_use(image, length);

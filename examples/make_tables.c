@@ -1,7 +1,8 @@
-/* Makes two of the supplied tables: make_tables words, make_tables rising, each to standard output.
+/* Makes three of the supplied tables: make_tables words, make_tables rising, make_tables endings, each to standard output.
  *   words:  wakes on each of twelve words; the automaton of Aho and Corasick. Most states answer like a state nearer to the start.
  *   rising: wakes when a level falls. A level is a byte's 60th part of 256, a state is the last level, and one more state is entered on a fall. A state answers
- *           like its neighbours but for one class, so long chains pay. */
+ *           like its neighbours but for one class, so long chains pay.
+ *   endings: of edition 2. Fifteen words, many of which end others: each that ends is reported, where words has a label for the longest only. */
 #include <stdio.h>
 #include <string.h>
 
@@ -9,13 +10,23 @@
 
 static uint8_t table[32768];
 
-static size_t words(void) {
-    static const char *const list[] = {"alarm", "armed", "remote", "motion", "emotion", "notice", "station", "stations", "online", "linear", "restart", "tariff"};
+static void add_words(const char *const *list, size_t count) {
     uint8_t classes[256] = {0};
     for (uint32_t x = 'a'; x <= 'z'; x++) classes[x] = (uint8_t)(x - 'a' + 1);
     words_begin(classes, 27);
-    for (size_t w = 0; w < sizeof list / sizeof *list; w++) words_add((const uint8_t *)list[w], strlen(list[w]));
+    for (size_t w = 0; w < count; w++) words_add((const uint8_t *)list[w], strlen(list[w]));
+}
+
+static size_t words(void) {
+    static const char *const list[] = {"alarm", "armed", "remote", "motion", "emotion", "notice", "station", "stations", "online", "linear", "restart", "tariff"};
+    add_words(list, sizeof list / sizeof *list);
     return words_table(table);
+}
+
+static size_t endings(void) {
+    static const char *const list[] = {"on", "ion", "motion", "emotion", "notion", "station", "stations", "alarm", "arm", "armed", "red", "restart", "start", "art", "tariff"};
+    add_words(list, sizeof list / sizeof *list);
+    return words_second_table(table);
 }
 
 static uint8_t *put16(uint8_t *at, uint32_t x) {
@@ -35,10 +46,10 @@ static size_t rising(void) {
 }
 
 int main(int count, char **given) {
-    if (count != 2 || (strcmp(given[1], "words") && strcmp(given[1], "rising"))) {
-        fprintf(stderr, "make_tables words|rising\n");
+    if (count != 2 || (strcmp(given[1], "words") && strcmp(given[1], "rising") && strcmp(given[1], "endings"))) {
+        fprintf(stderr, "make_tables words|rising|endings\n");
         return 2;
     }
-    size_t length = given[1][0] == 'w' ? words() : rising();
+    size_t length = given[1][0] == 'w' ? words() : given[1][0] == 'r' ? rising() : endings();
     return fwrite(table, 1, length, stdout) != length || fflush(stdout) ? 3 : 0;
 }

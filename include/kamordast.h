@@ -14,6 +14,20 @@
 extern "C" {
 #endif
 
+/* Both formats come in two editions, and every function takes both; what compact, write and expand make is of their input's edition. All numbers are little-endian. A
+ * table is n, k and the start state (16 bits each), 256 bytes with the class of each byte, the labels, and n rows of k next states. An image is n, k, start, depth (16 bits each) and m (32 bits),
+ * the 256 classes, the labels, n records (default state or 65535, count of entries), m entries (class, next state) and a trailer of 12 bytes. The labels are, in
+ *   edition 1: a label of 16 bits for each state, 0 for no rule. The first word is n, 1 to 512.
+ *   edition 2: a count of 16 bits for each state, 0 to 16, and behind the counts all labels, 16 bits each, by state, rising within a state and never 0. The first word is n and 32768.
+ * docs/FORMATS.md has every byte of both. A loader that knows edition 1 only refuses an image of edition 2 with 2. */
+
+/* The largest table and the largest image that there are, of either edition: a room of so many bytes is always enough for expand, and for compact and write. */
+#define KAMORDAST_LARGEST_TABLE 279814
+#define KAMORDAST_LARGEST_IMAGE 544024
+
+/* The most labels of a state: a room of 6 times so many bytes for each byte of a payload is always enough for its reports. */
+#define KAMORDAST_MOST_LABELS 16
+
 /* What compact, write and expand answer: 0 or the refusal's number, and the length of the result in the room. */
 typedef struct {
     uint32_t refused;
@@ -44,15 +58,15 @@ kamordast_built kamordast_compact(const uint8_t *table, size_t table_length, uin
  * more hops than bytes. An order above 3 is refused with 18. */
 kamordast_built kamordast_compact_in_order(const uint8_t *table, size_t table_length, uint32_t order, uint16_t bound, uint8_t *room, size_t room_length);
 
-/* Writes a table with a list of defaults, 16 bits for each state and 65535 for none, into an image at the front of the room. */
+/* Writes a table with a list of defaults, 16 bits for each of the n states and 65535 for none, into an image at the front of the room. */
 kamordast_built kamordast_write(const uint8_t *table, size_t table_length, const uint8_t *defaults, size_t defaults_length, uint8_t *room,
                                 size_t room_length);
 
 /* Expands an image into its table at the front of the room. */
 kamordast_built kamordast_expand(const uint8_t *image, size_t image_length, uint8_t *room, size_t room_length);
 
-/* Scans a payload from a state. A report is 6 bytes in the room: the byte's offset in this call (32 bits) and the label (16 bits). The scan stops before
- * the first byte whose report has no room. */
+/* Scans a payload from a state. A report is 6 bytes in the room: the byte's offset in this call (32 bits) and the label (16 bits). A byte that lands on a state with several labels
+ * gives as many reports, in rising order. The scan stops before the first byte whose reports do not all fit, and writes none of them. */
 kamordast_scanned kamordast_scan(const uint8_t *image, size_t image_length, uint32_t state, const uint8_t *payload, size_t payload_length,
                                  uint8_t *room, size_t room_length);
 

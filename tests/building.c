@@ -1,4 +1,4 @@
-/* Write, expand and compact, in every order, against the independent reading: random tables and lists, valid and damaged, rooms exact, one short, longer and empty. */
+/* Write, expand and compact, in every order, against the independent reading: random tables of both editions and lists, valid and damaged, rooms exact, one short, longer and empty. */
 #include <string.h>
 
 #include "built.h"
@@ -17,8 +17,11 @@ static uint32_t some_size(uint32_t most) {
 /* Write, the way back by expand, and the way forth again. */
 static void round_trips(int rounds) {
     while (rounds--) {
-        size_t length = make_table(table, rounds ? some_size(512) : 512, rounds ? some_size(256) : 256, below(257));
-        uint32_t n = number16(table, 0);
+        uint32_t n = rounds > 1 ? some_size(512) : 512, k = rounds > 1 ? some_size(256) : 256;
+        size_t length = make_table(table, n, k, below(257));
+        /* The last two tables are the largest, one of each edition. */
+        if (rounds > 1) length = either_edition(table, length);
+        if (rounds == 0) length = make_second(table, length, 16);
         make_defaults(defaults, n, below(257));
         size_t result = with_rooms(WRITE, table, length, 2 * (size_t)n, 0);
         if (!result) fail("a table as it should be", cases);
@@ -41,9 +44,9 @@ static void round_trips(int rounds) {
         }
         compared(WRITE, table, length, list_length, 0, below(2) ? LONGEST_IMAGE : 0);
         /* Damage in the table and in the image. */
-        table[below((uint32_t)length)] = (uint8_t)below(256);
+        table[below(3) ? below((uint32_t)length) : 262 + below(2 * n)] = (uint8_t)below(256);
         compared(WRITE, table, below(4) ? length : below((uint32_t)length), 2 * (size_t)n, 0, below(2) ? LONGEST_IMAGE : 0);
-        image[below(written.length)] = (uint8_t)below(256);
+        image[below(3) ? below(written.length) : 268 + below(2 * n)] = (uint8_t)below(256);
         if (below(2)) mend_check_word(image, written.length);
         compared(EXPAND, image, below(4) ? written.length : below(written.length), 0, 0, below(2) ? LONGEST_TABLE : 0);
     }
@@ -132,7 +135,7 @@ static void wrong_centre(void) {
 static void forests(int rounds) {
     while (rounds--) {
         uint32_t n = 1 + below(rounds % 50 ? 24 : 60), k = 1 + below(9);
-        size_t length = make_table(table, n, k, 128 + below(129));
+        size_t length = either_edition(table, make_table(table, n, k, 128 + below(129)));
         uint32_t bounds[] = {0, 1, 2, 3, 4, 7, n - 1, 65535};
         for (size_t i = 0; i < sizeof bounds / sizeof *bounds; i++)
             if (i == 7 - (uint32_t)rounds % 8) with_rooms(COMPACT, table, length, 0, bounds[i]);
@@ -146,7 +149,7 @@ static void forests(int rounds) {
 static void orders(int rounds) {
     while (rounds--) {
         uint32_t n = 1 + below(rounds % 10 ? 12 : 24), k = 1 + below(5), bound = below(8) ? below(7) : 65535;
-        size_t length = make_table(table, n, k, 128 + below(129));
+        size_t length = either_edition(table, make_table(table, n, k, 128 + below(129)));
         for (order = 0; order <= 3; order++) compared(COMPACT, table, length, 0, bound, LONGEST_IMAGE);
     }
     order = 0;
@@ -157,7 +160,7 @@ static void large_orders(int rounds) {
     static const uint32_t bounds[] = {1, 2, 3, 4, 8, 20, 65535};
     while (rounds--) {
         uint32_t n = rounds % 25 ? 1 + below(160) : 512 - below(100), k = rounds % 4 ? 2 + below(20) : 256 - below(100);
-        size_t length = make_table(table, n, k, rounds % 4 ? 180 + below(70) : 100 + below(150));
+        size_t length = either_edition(table, make_table(table, n, k, rounds % 4 ? 180 + below(70) : 100 + below(150)));
         for (order = 1; order <= 3; order++) compared(COMPACT, table, length, 0, bounds[below(7)], LONGEST_IMAGE);
     }
     order = 0;
@@ -169,6 +172,7 @@ static void no_such_order(void) {
     size_t length = make_table(table, 5, 3, 200);
     for (size_t i = 0; i < sizeof none / sizeof *none; i++) {
         order = none[i];
+        if (i == sizeof none / sizeof *none / 2) length = make_second(table, length, 16);
         compared(COMPACT, table, 0, 0, 2, 0);
         compared(COMPACT, table, length - 1, 0, 2, 400);
         with_rooms(COMPACT, table, length, 0, 2);

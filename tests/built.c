@@ -5,11 +5,15 @@
 #include <string.h>
 
 #include "kamordast.h"
+#include "old_loader.h"
 #include "reference/reference.h"
 
 uint8_t table[LONGEST_TABLE], image[LONGEST_IMAGE], defaults[1100], wanted[LONGEST_IMAGE + 64];
 uint32_t order;
-uint64_t cases, given[19];
+uint64_t cases, given[20];
+
+/* How many results were of edition 2. */
+static uint64_t second;
 
 static guarded lent_input, lent_list, lent_room;
 
@@ -50,6 +54,10 @@ size_t compared(enum operation o, const uint8_t *input, size_t length, size_t li
     if (answer.length != right.length) fail("the length differs", cases);
     if (memcmp(room, wanted, room_length)) fail("the room differs", cases);
     if (memcmp(in, input, length) || memcmp(list, defaults, list_length)) fail("a lent byte was changed", cases);
+    if (answer.length && edition_in(room) != edition_in(input)) fail("the result is of another edition than the input", cases);
+    /* That takes long for an image of edition 1, so one in ten of these is shown. */
+    if (answer.length && o != EXPAND && (edition_in(room) == 2 || cases % 10 == 0)) old_loader(room, answer.length, 0, cases);
+    second += answer.length && edition_in(room) == 2;
     given[right.refused]++;
     cases++;
     return right.length;
@@ -82,14 +90,15 @@ void expect_image(uint32_t length, uint32_t entries, uint32_t depth, uint32_t wo
 }
 
 void expect_defaults(const uint16_t *falls, const char *name) {
-    uint32_t n = number16(wanted, 0);
-    for (uint32_t s = 0; s < n; s++)
-        if (number16(wanted, 268 + 2 * n + 4 * s) != falls[s]) fail(name, s);
+    size_t records = records_in(wanted);
+    for (uint32_t s = 0; s < states_in(wanted); s++)
+        if (number16(wanted, records + 4 * s) != falls[s]) fail(name, s);
 }
 
 void say(const char *name) {
-    printf("%s: %llu cases agree\n  given  ", name, (unsigned long long)cases);
-    for (int r = 0; r < 19; r++)
+    if (!second) fail("no result was of edition 2", cases);
+    printf("%s: %llu cases agree, with %llu results of edition 2\n  given  ", name, (unsigned long long)cases, (unsigned long long)second);
+    for (int r = 0; r < 20; r++)
         if (given[r]) printf(" %d:%llu", r, (unsigned long long)given[r]);
     printf("\n");
 }

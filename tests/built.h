@@ -17,18 +17,19 @@ extern uint8_t table[LONGEST_TABLE], image[LONGEST_IMAGE], defaults[1100], wante
 extern uint32_t order;
 
 /* How many cases agree, and how often each number was answered. */
-extern uint64_t cases, given[19];
+extern uint64_t cases, given[20];
 
 /* Makes the buffers and seeds the source of numbers. */
 void begin(uint64_t from);
 
-/* Runs an operation with a room of 170s and compares the answer and every byte. Answers the result's length. */
+/* Runs an operation with a room of 170s and compares the answer and every byte; a result is of its input's edition, and one that is an image is shown to a loader of the first
+ * edition. Answers the result's length. */
 size_t compared(enum operation o, const uint8_t *input, size_t length, size_t list_length, uint32_t bound, size_t room_length);
 
 /* The same with rooms around the result's length. */
 size_t with_rooms(enum operation o, const uint8_t *input, size_t length, size_t list_length, uint32_t bound);
 
-/* A table with these rows, start state 0, no labels, and a byte behind 96 for each class above 0. */
+/* A table of edition 1 with these rows, start state 0, no labels, and a byte behind 96 for each class above 0. */
 void rows_of(uint32_t n, uint32_t k, const uint16_t *rows);
 
 /* Holds the image that the reading left to its numbers, and its defaults to a list. */

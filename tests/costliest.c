@@ -23,7 +23,7 @@ struct costliest {
 
 /* The next state of each state and class, or -1 where it stores nothing, from the image's records and entries. */
 static void read_entries(const uint8_t *image, size_t length, int32_t (*stored)[256], uint32_t *fallback) {
-    uint32_t n = number16(image, 0);
+    uint32_t n = states_in(image);
     size_t at = length - 12 - 4 * (size_t)number32(image, 8), records = at - 4 * (size_t)n;
     memset(stored, 255, 512 * sizeof *stored);
     for (uint32_t s = 0; s < n; s++) {
@@ -51,7 +51,7 @@ costliest *find_costliest(const uint8_t *image, size_t length, size_t bytes) {
     static int32_t stored[512][256];
     uint32_t fallback[512], before[512];
     costliest *found = calloc(1, sizeof *found);
-    found->n = number16(image, 0);
+    found->n = states_in(image);
     found->bytes = bytes;
     found->ways = malloc(512 * 256 * sizeof *found->ways);
     found->chosen = malloc(bytes * found->n + 1);

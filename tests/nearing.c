@@ -1,4 +1,4 @@
-/* Scans of images in order 3: a whole payload costs no more hops than it has bytes. From every state of level l the hops are held to bytes taken plus l, wherever
+/* Scans of images of both editions in order 3: a whole payload costs no more hops than it has bytes. From every state of level l the hops are held to bytes taken plus l, wherever
  * the scan stops, on random payloads and on those that cost the most of all of their length; every answer is held to the independent reading too. A first byte from
  * the start costs nothing, so where a byte was taken the bound less one is never passed, and that is met. */
 #include <stdio.h>
@@ -6,10 +6,11 @@
 
 #include "costliest.h"
 #include "kamordast.h"
+#include "old_loader.h"
 #include "reference/reference.h"
 #include "support.h"
 
-static uint8_t table[LONGEST_TABLE], image[LONGEST_IMAGE], payload[65536], room[6 * 65536], wanted[6 * 65536];
+static uint8_t table[LONGEST_TABLE], image[LONGEST_IMAGE], payload[65536], room[6 * KAMORDAST_MOST_LABELS * 65536], wanted[6 * KAMORDAST_MOST_LABELS * 65536];
 static int level[512];
 static size_t length;
 static uint64_t cases, met, from_start, unreached;
@@ -19,6 +20,7 @@ static void use(size_t table_length) {
     kamordast_built built = kamordast_compact_in_order(table, table_length, 3, (uint16_t)below(65536), image, sizeof image);
     if (built.refused) fail("a table as it should be", built.refused);
     length = built.length;
+    old_loader(image, length, 0, cases);
     reference_levels(table, level);
 }
 
@@ -47,21 +49,22 @@ static kamordast_scanned held(uint32_t state, size_t bytes, size_t room_length) 
 
 /* A payload with room for all reports, for all but one, for some and for none. */
 static void in_rooms(uint32_t state, size_t bytes) {
-    kamordast_scanned all = held(state, bytes, 6 * bytes);
+    kamordast_scanned all = held(state, bytes, 6 * KAMORDAST_MOST_LABELS * bytes);
     if (!all.reports) return;
     held(state, bytes, 6 * (size_t)all.reports - 1);
     held(state, bytes, below(6 * all.reports));
+    held(state, bytes, 6 * (size_t)below(all.reports));
     held(state, bytes, 0);
 }
 
 /* From every state, or on large tables from some: a payload at random, and the costliest. */
 static void from_states(size_t bytes, uint32_t step) {
     costliest *found = find_costliest(image, length, bytes);
-    for (uint32_t s = below(step); s < number16(image, 0); s += step) {
+    for (uint32_t s = below(step); s < states_in(image); s += step) {
         for (size_t i = 0; i < bytes; i++) payload[i] = (uint8_t)below(256);
         in_rooms(s, bytes);
         uint32_t most = costliest_from(found, s, payload);
-        if (held(s, bytes, 6 * bytes).hops != most) fail("the costliest payload costs another number of hops", most);
+        if (held(s, bytes, 6 * KAMORDAST_MOST_LABELS * bytes).hops != most) fail("the costliest payload costs another number of hops", most);
         in_rooms(s, bytes);
     }
     forget_costliest(found);
@@ -71,7 +74,7 @@ static void from_states(size_t bytes, uint32_t step) {
 static void random_tables(int rounds) {
     while (rounds--) {
         uint32_t n = rounds % 50 ? 1 + below(20) : 100 + below(413), k = rounds % 50 ? 1 + below(8) : 1 + below(256), alike = 100 + below(157);
-        use(rounds % 3 ? make_levels(table, n, k, alike, below(3) ? n : 1 + below(n), below(2) ? 1 : 1 + below(6)) : make_table(table, n, k, alike));
+        use(either_edition(table, rounds % 3 ? make_levels(table, n, k, alike, below(3) ? n : 1 + below(n), below(2) ? 1 : 1 + below(6)) : make_table(table, n, k, alike)));
         from_states(n > 20 ? 200 : below(60), n > 20 ? 80 : 1);
     }
 }
@@ -95,8 +98,9 @@ static void t_meets(void) {
 
 /* The stairs: up to the top by 511 bytes for nothing, down again by one byte of 511 hops to state 1, and so on. One byte may cost 511 hops; the whole costs a hop
  * less than it has bytes. */
-static void stairs_meet(void) {
-    use(make_stairs(table));
+static void stairs_meet(int edition) {
+    size_t table_length = make_stairs(table);
+    use(edition == 2 ? make_second(table, table_length, 0) : table_length);
     for (size_t i = 0; i < sizeof payload; i++) payload[i] = i && i % 511 == 0 ? 11 : 0;
     for (size_t bytes = 512; bytes <= sizeof payload; bytes += 127 * 511)
         if (held(0, bytes, 0).hops != bytes - 1) fail("the stairs, up and down", bytes);
@@ -109,7 +113,8 @@ static void stairs_meet(void) {
 int main(void) {
     seed(17);
     t_meets();
-    stairs_meet();
+    stairs_meet(1);
+    stairs_meet(2);
     random_tables(400);
     if (!met || !from_start || !unreached) fail("a kind of scan did not occur", cases);
     printf("nearing: %llu scans in order 3 within bytes taken and level, %llu of them one below it, %llu of these from the start; %llu from states that are not reached\n",

@@ -1,4 +1,4 @@
-/* The sampled rows: random tables of 1 to 12 states, damaged ones too, and what the independent reading answers and writes in every case, as
+/* The sampled rows: random tables of 1 to 12 states, of edition 2 in the last files, damaged ones too, and what the independent reading answers and writes in every case, as
  * definitions for the prover. Writes Sample1.antt and so on into the folder that it is given: the same bytes at every run and by every compiler, so
  * no expression takes two random numbers whose order C leaves open. */
 #include <stdarg.h>
@@ -12,7 +12,7 @@
 /* Stands in a text where the next item of a list begins. */
 enum { ITEM = 1 };
 
-enum { SEED = 25, FILES = 15, ORDERED_FILES = 2, WHOLE = 7, ORDERED = 6, TOWARD = 3, WIDTH = 150, MOST_BYTES = 1000, MOST_IMAGES = 40, MOST_CHANGES = 40 };
+enum { SEED = 25, FILES = 15, ORDERED_FILES = 2, SECOND_FILES = 2, WHOLE = 7, ORDERED = 6, TOWARD = 3, SECOND = 5, WIDTH = 150, MOST_BYTES = 1000, MOST_IMAGES = 40, MOST_CHANGES = 40 };
 
 typedef struct {
     size_t length;
@@ -32,7 +32,7 @@ static FILE *file;
 static piece table, images[MOST_IMAGES];
 static size_t image_count;
 static uint32_t order; /* of the forest, in the rows that are made now */
-static uint64_t rows, rows_here, broken, cases, bound_decides, order_decides, given[19];
+static uint64_t rows, rows_here, broken, cases, bound_decides, order_decides, given[20];
 
 /* A field's text grows here until it is set in lines. */
 static char text[1 << 18], case_text[1 << 18];
@@ -261,7 +261,7 @@ static void make_some_table(uint32_t n, uint32_t k) {
 
 /* Damage to the row's table, where its grounds look. */
 static damage table_damage(void) {
-    uint32_t n = number16(table.bytes, 0), k = number16(table.bytes, 2);
+    uint32_t n = states_in(table.bytes), k = number16(table.bytes, 2);
     damage d = {0, table.length, 0, {0}, {0}};
     uint32_t few = below(3), half = below(2), byte = below(256), entry = below(n * k);
     switch (below(8)) {
@@ -283,7 +283,7 @@ static damage image_damage(size_t i) {
     const piece *whole = &images[i];
     piece p = *whole;
     size_t length = p.length;
-    uint32_t n = number16(p.bytes, 0), k = number16(p.bytes, 2), m = number32(p.bytes, 8);
+    uint32_t n = states_in(p.bytes), k = number16(p.bytes, 2), m = number32(p.bytes, 8);
     size_t entries = length - 12 - 4 * (size_t)m, records = entries - 4 * (size_t)n;
     damage cut = {0, below(2) ? below((uint32_t)length) : length - 1 - below(24), 0, {0}, {0}};
     uint32_t half = below(2), few = below(5), byte = below(256), class = below(k + 1), next = below(n + 1), other = below(n);
@@ -309,6 +309,29 @@ static damage image_damage(size_t i) {
     default: set16(p.bytes, record, other); break;
     }
     if (below(8)) mend_check_word(p.bytes, length);
+    return difference(whole, &p);
+}
+
+/* Damage to what edition 2 has of its own, in the row's table or in an image, whose counts begin at a place: the first word, a count, a label, or a cut inside the counts, where a wrong
+ * count in sight does not matter. */
+static damage second_damage(const piece *whole, size_t counts, int is_image) {
+    piece p = *whole;
+    uint32_t n = states_in(p.bytes), words = (uint32_t)((is_image ? records_in(p.bytes) : rows_in(p.bytes)) - counts) / 2, kind = below(9), state = below(n), word = below(words);
+    uint32_t few = below(3), half = below(2), behind = words > n ? n + below(words - n) : word;
+    size_t count = counts + 2 * (size_t)state, label = counts + 2 * (size_t)behind;
+    damage cut = {0, counts + 2 * (size_t)n - few, 0, {0}, {0}};
+    switch (kind) {
+    case 0: set16(p.bytes, 0, n); break;
+    case 1: set16(p.bytes, 0, half ? 32768 : 33281 + few); break;
+    case 2: set16(p.bytes, count, 17 + few); break;
+    case 3: set16(p.bytes, count, number16(p.bytes, count) + 1); break;
+    case 4: set16(p.bytes, label, 0); break;
+    case 5: set16(p.bytes, label, number16(p.bytes, label - 2)); break;
+    case 6: set16(p.bytes, label, number16(p.bytes, label) + 1); break;
+    case 7: change(&cut, count, 17 + few); return cut;
+    default: change(&cut, count + 1, 1); return cut;
+    }
+    if (is_image && below(6)) mend_check_word(p.bytes, p.length);
     return difference(whole, &p);
 }
 
@@ -535,6 +558,52 @@ static void broken_ordered_row(void) {
     print_row(&plain, &d, judged);
 }
 
+/* A row of edition 2: compact in every order, once in a room that is too short, a list of defaults that is taken and one at random, judges of damaged images, an expansion, and scans in
+ * rooms for all reports and for fewer. */
+static void second_row(uint32_t n, uint32_t most) {
+    begin_row();
+    uint32_t k = 1 + below(4), bound = 1 + below(3);
+    make_some_table(n, k);
+    table.length = make_second(table.bytes, table.length, most);
+    for (order = 0; order <= 3; order++) some_compact(bound, 0);
+    order = 3 * below(2);
+    some_compact(bound, 1);
+    order = 0;
+    some_write(n, 0, 0);
+    some_write(n, (int)below(2), 1);
+    some_judge();
+    for (int i = 0; i < 3; i++) {
+        size_t number = below((uint32_t)image_count);
+        damage d = second_damage(&images[number], 268, 1);
+        judges(number, &d);
+    }
+    some_expand();
+    size_t number = below((uint32_t)image_count);
+    damage d = second_damage(&images[number], 268, 1);
+    expands(number, &d, table.length);
+    for (int i = 0; i < 3; i++) some_scan(n);
+    print_row(&table, &WHOLE_ONE, 0);
+}
+
+/* A table of edition 2 that is refused, or is another table for its damage. */
+static void broken_second_row(void) {
+    begin_row();
+    broken++;
+    uint32_t n = 1 + below(4), k = 1 + below(3), own = below(5);
+    make_some_table(n, k);
+    table.length = make_second(table.bytes, table.length, 16);
+    piece plain = table;
+    damage d = own ? second_damage(&plain, 262, 0) : table_damage();
+    table = damaged(&plain, &d);
+    uint32_t judged = reference_judge_table(table.bytes, table.length);
+    given[judged]++;
+    uint8_t list[64];
+    size_t bytes = some_list(list, n, 0);
+    writes(list, bytes, below(2) ? 500 : below(20));
+    if (!image_count) compacts(below(4), 400);
+    print_row(&plain, &d, judged);
+}
+
 static void begin_file(const char *folder, int number) {
     char name[400];
     snprintf(name, sizeof name, "%s/Sample%d.antt", folder, number);
@@ -577,9 +646,18 @@ int main(int words, char **word) {
         fprintf(file, "    ∷ []\n");
         if (fclose(file)) fail("a file could not be written", (uint64_t)f);
     }
+    /* Edition 2, of up to 6 states: lists of any length, of at most two labels, and none. */
+    static const uint32_t second[SECOND_FILES][SECOND] = {{1, 2, 4, 5, 6}, {2, 3, 3, 5, 6}}, most[SECOND] = {16, 16, 0, 16, 2};
+    for (int f = 0; f < SECOND_FILES; f++) {
+        begin_file(word[1], FILES + ORDERED_FILES + 1 + f);
+        for (uint32_t i = 0; i < SECOND; i++) second_row(second[f][i], most[i]);
+        for (int i = 0; i < 3; i++) broken_second_row();
+        fprintf(file, "    ∷ []\n");
+        if (fclose(file)) fail("a file could not be written", (uint64_t)f);
+    }
     printf("rows: %llu tables, %llu of them damaged, %llu cases; a bound above 0 decides in %llu, an order above 0 in %llu\n  given  ", (unsigned long long)rows,
            (unsigned long long)broken, (unsigned long long)cases, (unsigned long long)bound_decides, (unsigned long long)order_decides);
-    for (int r = 0; r < 19; r++)
+    for (int r = 0; r < 20; r++)
         if (given[r]) printf(" %d:%llu", r, (unsigned long long)given[r]);
     printf("\n");
     return 0;

@@ -1,18 +1,18 @@
-/* The program `served` against the independent reading, every byte that it prints: images with payloads of many kinds, damaged images, every cut and every altered byte of an
+/* The program `served` against the independent reading, every byte that it prints: images of both editions with payloads of many kinds, damaged images, every cut and every altered byte of an
  * image, counts that lead far past the input, and inputs around 60,000 bytes. */
 #include <stdio.h>
 #include <string.h>
 
 #include "costliest.h"
+#include "old_loader.h"
 #include "program.h"
 #include "reference/programs.h"
 #include "reference/reference.h"
-#include "support.h"
 
 enum { LONGEST_INPUT = 60000 };
 
-static uint8_t table[LONGEST_TABLE], image[LONGEST_IMAGE], defaults[1024], input[LONGEST_IMAGE + 2 * LONGEST_INPUT], room[6 * LONGEST_INPUT];
-static uint64_t cases, given[19], too_long, empty, hops_counted;
+static uint8_t table[LONGEST_TABLE], image[LONGEST_IMAGE], defaults[1024], input[LONGEST_IMAGE + 2 * LONGEST_INPUT], room[6 * 16 * LONGEST_INPUT];
+static uint64_t cases, given[20], too_long, empty, hops_counted;
 
 /* What the program prints of the input's first bytes. */
 static void agree(size_t length) {
@@ -27,17 +27,24 @@ static void agree(size_t length) {
 
 /* Makes the image of a table of this length with the list of defaults. */
 static size_t written(size_t length) {
-    reference_built built = reference_write(table, length, defaults, 2 * (size_t)number16(table, 0), image, sizeof image);
+    reference_built built = reference_write(table, length, defaults, 2 * (size_t)states_in(table), image, sizeof image);
     if (built.refused) fail("the reference refused its own table", cases);
+    old_loader(image, built.length, 0, cases);
     return built.length;
 }
 
-/* An image of a random table: with random defaults, or compacted in one of the orders. */
+/* An image of a random table of either edition: with random defaults, or compacted in one of the orders. */
 static size_t some_image(uint32_t n, uint32_t k) {
     size_t length = make_table(table, n, k, below(257));
     if (!below(4)) /* a label on every state */
         for (uint32_t s = 0; s < n; s++) set16(table, 262 + 2 * s, 1 + below(65535));
-    if (n <= 12 && below(2)) return reference_compact(table, length, below(4), below(6), image, sizeof image).length;
+    length = either_edition(table, length);
+    if (n <= 12 && below(2)) {
+        uint32_t order = below(4);
+        length = reference_compact(table, length, order, below(6), image, sizeof image).length;
+        old_loader(image, length, 0, cases);
+        return length;
+    }
     make_defaults(defaults, n, below(257));
     return written(length);
 }
@@ -94,8 +101,10 @@ static void damaged(int rounds) {
 }
 
 /* Every beginning of an image with a payload, and every copy with one byte altered: one altered count moves the place where the image ends. */
-static void cuts_and_alterations(uint32_t n, uint32_t k) {
-    size_t length = some_image(n, k), bytes = 20;
+static void cuts_and_alterations(uint32_t edition, uint32_t n, uint32_t k) {
+    size_t length, bytes = 20;
+    do length = some_image(n, k);
+    while (edition_in(image) != edition);
     put(length, bytes);
     for (size_t cut = 0; cut <= length + bytes; cut++) agree(cut);
     for (size_t at = 0; at < length; at++) {
@@ -107,12 +116,14 @@ static void cuts_and_alterations(uint32_t n, uint32_t k) {
 }
 
 /* Counts that were not checked lead far: past 32 bits, back to the image's own end in 32 bits, or into the payload. */
-static void far_counts(void) {
-    size_t length = some_image(7, 4), bytes = 400;
+static void far_counts(uint32_t edition) {
+    size_t length, bytes = 400;
+    do length = some_image(7, 4);
+    while (edition_in(image) != edition || (edition == 2 && records_in(image) == 282));
     uint32_t m = number32(image, 8);
     const uint32_t far_m[] = {0, 1, 3, m - 1, m + 1, m + 2, 28, 29, 100, 0x3fffffff, 0x40000000, 0x40000000 + m, 0x80000000 + m, 0xc0000000 + m, 0xc0000001 + m,
                               0xffffff00, 0xffffffb0, 0xffffffff};
-    const uint32_t far_n[] = {0, 1, 6, 7, 8, 512, 513, 10922, 32768, 65535};
+    const uint32_t far_n[] = {0, 1, 6, 7, 8, 512, 513, 10922, 32767, 32768, 32769, 32774, 32775, 32776, 33280, 33281, 65535};
     for (size_t i = 0; i < sizeof far_m / sizeof *far_m; i++)
         for (size_t j = 0; j < sizeof far_n / sizeof *far_n; j++) {
             put(length, bytes);
@@ -123,6 +134,44 @@ static void far_counts(void) {
             mend_check_word(input, length);
             agree(length + (j % 2 ? bytes : 0));
         }
+}
+
+/* Counts of labels that were not checked: they lead into the payload, to its end, past it, and past 32 bits by their sum. */
+static void far_labels(void) {
+    static const uint32_t counts[] = {0, 1, 2, 15, 16, 17, 18, 100, 198, 199, 200, 201, 202, 255, 256, 32767, 32768, 65535};
+    size_t length, bytes = 400;
+    do length = some_image(7, 4);
+    while (edition_in(image) != 2);
+    for (uint32_t s = 0; s <= 7; s++)
+        for (size_t i = 0; i < sizeof counts / sizeof *counts; i++) {
+            put(length, bytes);
+            for (uint32_t t = 0; t < 7; t++)
+                if (t == s || s == 7) set16(input, 268 + 2 * t, counts[i]);
+            agree(length + bytes);
+            agree(length);
+            mend_check_word(input, length);
+            agree(length + bytes);
+        }
+    /* As many states as can be said, with counts as high as can be, or as many as the input just holds or just does not. */
+    static const uint32_t states[] = {512, 513, 10000, 29865, 29866, 29867, 32767};
+    for (size_t i = 0; i < sizeof states / sizeof *states; i++) {
+        memset(input, 255, LONGEST_INPUT);
+        memcpy(input, image, 268);
+        set16(input, 0, 32768 + states[i]);
+        agree(LONGEST_INPUT);
+        set32(input, 8, 0xffffffff);
+        agree(LONGEST_INPUT);
+    }
+}
+
+/* Input that ends inside the counts of labels, or before they begin, is judged whole, and no count is looked at. */
+static void cut_counts(void) {
+    size_t length, bytes = 0;
+    do length = some_image(12, 3);
+    while (edition_in(image) != 2);
+    put(length, bytes);
+    memset(input + 268, 255, 24);
+    for (size_t cut = 250; cut <= 300; cut++) agree(cut);
 }
 
 /* An image of just 60,000 bytes: 512 states and 28 classes, 14,162 entries of 14,336. Seven states fall to 0; six of them store nothing, and the last one all but six. */
@@ -168,8 +217,12 @@ static void limits(void) {
 }
 
 /* The stairs in order 3, where byte 11 climbs 511 defaults: every state serves, and state 0 for all. */
-static void long_chains(void) {
-    size_t length = reference_compact(table, make_stairs(table), 3, 0, image, sizeof image).length, bytes = 2000;
+static void long_chains(uint32_t edition) {
+    size_t table_length = make_stairs(table), bytes = 2000;
+    if (edition == 2) table_length = make_second(table, table_length, 16);
+    size_t length = reference_compact(table, table_length, 3, 0, image, sizeof image).length;
+    if (edition_in(image) != edition) fail("the stairs are of another edition", edition);
+    old_loader(image, length, 0, cases);
     put(length, bytes);
     for (size_t i = 0; i < bytes; i++) input[length + i] = (uint8_t)(i % 512 == 511 ? 11 : below(12) ? 0 : below(12));
     columns_hold(length, bytes);
@@ -180,17 +233,21 @@ int main(int count, char **words) {
     use_program(count, words);
     seed(14);
     limits();
-    far_counts();
-    long_chains();
-    cuts_and_alterations(4, 3);
-    cuts_and_alterations(9, 5);
+    for (uint32_t edition = 1; edition <= 2; edition++) {
+        far_counts(edition);
+        long_chains(edition);
+        cuts_and_alterations(edition, 4, 3);
+        cuts_and_alterations(edition, 9, 5);
+    }
+    far_labels();
+    cut_counts();
     with_payloads(900);
     damaged(900);
-    for (uint32_t r = 0; r <= 13; r++)
-        if (!given[r]) fail("a number that was never given", r);
+    for (uint32_t r = 0; r <= 19; r++)
+        if (!given[r] && (r <= 13 || r == 19)) fail("a number that was never given", r);
     if (!too_long || !empty || !hops_counted) fail("too long, an empty payload and a hop are each to be seen", cases);
     printf("served: %llu texts agree, %llu of them too long, %llu of no payload\n  given  ", (unsigned long long)cases, (unsigned long long)too_long, (unsigned long long)empty);
-    for (int r = 0; r < 19; r++)
+    for (int r = 0; r < 20; r++)
         if (given[r]) printf(" %d:%llu", r, (unsigned long long)given[r]);
     printf("\n");
     return 0;

@@ -1,10 +1,11 @@
 /* Images kept in tests/images: each is still judged good, expanded, scanned and written again to the same bytes. Those of the orders 0 to 2 were built before the
  * root of a tree with two centres became the one with more neighbours; all but T's have a tree that is now rooted at its other centre. Those of order 3 are as that
- * order first built them. */
+ * order first built them, and those of edition 2 as that edition first was. */
 #include <stdio.h>
 #include <string.h>
 
 #include "kamordast.h"
+#include "old_loader.h"
 #include "reference/reference.h"
 #include "support.h"
 
@@ -15,11 +16,12 @@ static const struct {
 } stored[] = {
     {"T-bound-2", 0, 2, 1},           {"tree-of-five", 0, 65535, 0},   {"twelve-order-0", 0, 5, 0},
     {"twelve-order-1", 1, 3, 0},      {"twelve-order-2", 2, 3, 0},     {"forty-order-0", 0, 7, 0},
-    {"twelve-order-3", 3, 0, 1},      {"forty-order-3", 3, 0, 1},
+    {"twelve-order-3", 3, 0, 1},      {"forty-order-3", 3, 0, 1},      {"T-edition-2", 0, 2, 1},
+    {"twelve-edition-2", 2, 3, 1},
 };
 
 static uint8_t image[LONGEST_IMAGE], table[LONGEST_TABLE], again[LONGEST_IMAGE], wanted[LONGEST_IMAGE], defaults[1024], payload[4096];
-static uint8_t reports[6 * sizeof payload], other_reports[6 * sizeof payload];
+static uint8_t reports[6 * KAMORDAST_MOST_LABELS * sizeof payload], other_reports[sizeof reports];
 
 static size_t read_image(const char *name) {
     char path[64];
@@ -45,11 +47,12 @@ static kamordast_scanned scanned(const uint8_t *b, size_t length, uint8_t *room,
 static void kept(size_t i) {
     size_t length = read_image(stored[i].name);
     if (kamordast_judge_image(image, length) || reference_judge_image(image, length)) fail("a stored image is refused", i);
+    old_loader(image, length, 0, i);
 
     kamordast_built back = kamordast_expand(image, length, table, sizeof table);
     if (back.refused || kamordast_judge_table(table, back.length)) fail("a stored image is not expanded", i);
 
-    uint32_t n = number16(image, 0);
+    uint32_t n = states_in(image);
     size_t records = length - 12 - 4 * (size_t)number32(image, 8) - 4 * (size_t)n;
     for (uint32_t s = 0; s < n; s++) set16(defaults, 2 * s, number16(image, records + 4 * s));
     kamordast_built written = kamordast_write(table, back.length, defaults, 2 * (size_t)n, again, sizeof again);

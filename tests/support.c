@@ -31,6 +31,19 @@ void set32(uint8_t *b, size_t at, uint32_t x) {
     set16(b, at + 2, x >> 16);
 }
 
+uint32_t edition_in(const uint8_t *b) { return number16(b, 0) < 32768 ? 1 : 2; }
+uint32_t states_in(const uint8_t *b) { return number16(b, 0) % 32768; }
+
+/* How many labels stand behind counts at a place. */
+static size_t labels_in(const uint8_t *b, size_t counts) {
+    size_t sum = 0;
+    for (uint32_t s = 0; edition_in(b) == 2 && s < states_in(b); s++) sum += number16(b, counts + 2 * (size_t)s);
+    return sum;
+}
+
+size_t rows_in(const uint8_t *table) { return 262 + 2 * (size_t)states_in(table) + 2 * labels_in(table, 262); }
+size_t records_in(const uint8_t *image) { return 268 + 2 * (size_t)states_in(image) + 2 * labels_in(image, 268); }
+
 void mend_check_word(uint8_t *image, size_t length) {
     uint64_t sum = 0;
     for (size_t i = 0; i + 2 < length; i += 2) sum += number16(image, i);
@@ -100,6 +113,45 @@ size_t make_stairs(uint8_t *table) {
     return at;
 }
 
+/* How many labels a state has, at most `most`: few, mostly. */
+static uint32_t some_count(uint32_t most) {
+    uint32_t count = below(6) ? below(3) : below(24) ? below(17) : 16;
+    return count < most ? count : most;
+}
+
+/* A list of labels, rising: from 1 on or far up, in small steps or large ones, so that some labels stand in several states and the last may be 65535. */
+static void make_list(uint8_t *list, uint32_t count) {
+    uint32_t label = below(3) ? below(8) : below(65536 - 16), step = below(2) ? 1 : 1 + below(4000);
+    for (uint32_t i = 0; i < count; i++) {
+        uint32_t most = 65535 - (count - 1 - i), next = label + 1 + below(step);
+        label = next < most ? next : most;
+        set16(list, 2 * (size_t)i, label);
+    }
+}
+
+size_t make_second(uint8_t *table, size_t length, uint32_t most) {
+    uint32_t n = states_in(table), full = most == 16 && below(12) == 0;
+    size_t rows = 262 + 2 * (size_t)n, behind = 0, at = rows;
+    for (uint32_t s = 0; s < n; s++) {
+        uint32_t count = full ? 16 : some_count(most);
+        set16(table, 262 + 2 * (size_t)s, count);
+        behind += 2 * (size_t)count;
+    }
+    memmove(table + rows + behind, table + rows, length - rows);
+    for (uint32_t s = 0; s < n; s++) {
+        uint32_t count = number16(table, 262 + 2 * (size_t)s);
+        make_list(table + at, count);
+        at += 2 * (size_t)count;
+    }
+    set16(table, 0, 32768 + n);
+    return length + behind;
+}
+
+size_t either_edition(uint8_t *table, size_t length) {
+    if (below(2)) return length;
+    return make_second(table, length, below(12) ? 16 : below(3));
+}
+
 void make_defaults(uint8_t *defaults, uint32_t n, uint32_t often) {
     /* States in an order at random; each may fall to one before it. */
     uint32_t order[512];
@@ -108,9 +160,9 @@ void make_defaults(uint8_t *defaults, uint32_t n, uint32_t often) {
 }
 
 void damage_image(uint8_t *b, const uint8_t *image, size_t length) {
-    uint32_t n = number16(image, 0), k = number16(image, 2), m = number32(image, 8);
-    size_t records = length - 12 - 4 * (size_t)m - 4 * (size_t)n, entries = records + 4 * (size_t)n;
-    switch (below(12)) {
+    uint32_t n = states_in(image), k = number16(image, 2), m = number32(image, 8);
+    size_t records = length - 12 - 4 * (size_t)m - 4 * (size_t)n, entries = records + 4 * (size_t)n, labels = (records - 268) / 2;
+    switch (below(15)) {
     case 0: set16(b, 2 * below(4), below(2) ? below(n + 2) : below(65536)); break;
     case 1: set32(b, 8, below(2) ? m + below(3) - 1 : below(1u << 31) * 2u); break;
     case 2: set32(b, length - 4 * (2 + below(2)), (uint32_t)length + below(5) - 2); break;
@@ -126,6 +178,14 @@ void damage_image(uint8_t *b, const uint8_t *image, size_t length) {
         size_t from = records + 4 * below(n) + 2, to = records + 4 * below(n) + 2;
         set16(b, from, number16(b, from) - 1);
         set16(b, to, number16(b, to) + 1);
+        break;
+    }
+    case 11: set16(b, 0, number16(image, 0) + (below(2) ? 32768 : below(3) - 1)); break; /* the other edition, or a state more or less */
+    case 12: set16(b, 268 + 2 * below(n), below(3) ? below(18) : below(65536)); break;
+    case 13: {
+        /* A label, or in edition 1 and among the counts a word: 0, another, or the one before it. */
+        size_t at = 268 + 2 * (size_t)below((uint32_t)labels);
+        set16(b, at, below(3) == 0 ? 0 : below(2) ? below(65536) : number16(b, at - 2));
         break;
     }
     default: b[below((uint32_t)length)] ^= (uint8_t)(1 << below(8));

@@ -1,4 +1,4 @@
-/* Compact in order 3, toward the start, against the independent reading: a table by hand that tells the rule from its neighbours, tables in levels, and the
+/* Compact in order 3, toward the start, against the independent reading: a table by hand that tells the rule from its neighbours, tables in levels of both editions, and the
  * longest chain. */
 #include <string.h>
 
@@ -23,7 +23,7 @@ static void in_levels(int rounds) {
     static const uint32_t bounds[] = {0, 1, 7, 65535};
     while (rounds--) {
         uint32_t n = rounds % 100 ? 1 + below(30) : 512, k = 1 + below(rounds % 10 ? 9 : 2), reached = below(3) ? n : 1 + below(n), wide = below(2) ? 1 : 1 + below(6);
-        size_t length = make_levels(table, n, k, below(257), reached, wide), result = with_rooms(COMPACT, table, length, 0, 2);
+        size_t length = either_edition(table, make_levels(table, n, k, below(257), reached, wide)), result = with_rooms(COMPACT, table, length, 0, 2);
         for (size_t i = 0; i < 4; i++) {
             if (compared(COMPACT, table, length, 0, bounds[i], result) != result || (i && memcmp(wanted, image, result))) fail("the bound decides in order 3", bounds[i]);
             memcpy(image, wanted, result);
@@ -37,8 +37,8 @@ static void in_levels(int rounds) {
 static void one_class(int rounds) {
     while (rounds--) {
         uint32_t n = 1 + below(40);
-        size_t length = make_table(table, n, 1, below(257)), result = with_rooms(COMPACT, table, length, 0, below(8));
-        if (result != 280 + 10 * n) fail("a default with one class", n);
+        size_t length = either_edition(table, make_table(table, n, 1, below(257))), result = with_rooms(COMPACT, table, length, 0, below(8));
+        if (result != rows_in(table) + 18 + 8 * n) fail("a default with one class", n);
     }
 }
 
@@ -46,11 +46,18 @@ static void one_class(int rounds) {
 static void stairs(void) {
     uint16_t falls[512];
     for (uint32_t s = 0; s < 512; s++) falls[s] = (uint16_t)(s ? s - 1 : 65535);
-    size_t length = make_stairs(table);
-    if (with_rooms(COMPACT, table, length, 0, 3) != 7484) fail("the stairs", 0);
-    compared(COMPACT, table, length, 0, 3, 7484);
-    expect_image(7484, 1033, 511, 511, "the stairs");
-    expect_defaults(falls, "the defaults of the stairs");
+    size_t length = make_stairs(table), image_length = 7484;
+    for (int edition = 1; edition <= 2; edition++) {
+        if (edition == 2) {
+            size_t longer = make_second(table, length, 16);
+            image_length += longer - length;
+            length = longer;
+        }
+        if (with_rooms(COMPACT, table, length, 0, 3) != image_length) fail("the stairs", 0);
+        compared(COMPACT, table, length, 0, 3, image_length);
+        expect_image((uint32_t)image_length, 1033, 511, 511, "the stairs");
+        expect_defaults(falls, "the defaults of the stairs");
+    }
 }
 
 int main(void) {

@@ -1,18 +1,19 @@
-/* The walk against the independent reading, and beside it the archive's scan of each image of the table: those that compact builds in every order, and one that write
- * makes of a list at random. Then a table and an image with one fault each, told apart by the two. Buffers begin or end at a guard page, by turns. */
+/* The walk against the independent reading, on tables of both editions, and beside it the archive's scan of each image of the table: those that compact builds in every order, and one
+ * that write makes of a list at random. Then a table and an image with one fault each, told apart by the two. Buffers begin or end at a guard page, by turns. */
 #include <stdio.h>
 #include <string.h>
 
 #include "kamordast.h"
+#include "old_loader.h"
 #include "reference/reference.h"
 #include "support.h"
 
 enum { IMAGES = 5, SHORT = 40 };
 
 static guarded lent_table, lent_image, lent_payload, lent_room, lent_other;
-static uint8_t table[LONGEST_TABLE], images[IMAGES][LONGEST_IMAGE], payload[65600], wanted[6 * 65600], defaults[1024];
+static uint8_t table[LONGEST_TABLE], images[IMAGES][LONGEST_IMAGE], payload[65600], wanted[6 * KAMORDAST_MOST_LABELS * 65600], defaults[1024];
 static size_t table_length, image_length[IMAGES];
-static uint64_t cases, scans, with_hops, given[19];
+static uint64_t cases, scans, with_hops, parted, given[20];
 
 /* Scans an image of the table and holds the number, bytes taken, state, reports and every byte of the room to the walk's. */
 static void beside(int i, const kamordast_scanned *walked, uint32_t state, const uint8_t *lent, size_t bytes, size_t room_length) {
@@ -46,6 +47,8 @@ static kamordast_scanned compared(int of_images, uint32_t state, size_t bytes, s
     if (memcmp(room, wanted, room_length)) fail("the room differs", cases);
     if (memcmp(in, table, table_length) || memcmp(lent, payload, bytes)) fail("a lent byte was changed", cases);
     for (int i = 0; i < of_images; i++) beside(i, &answer, state, lent, bytes, room_length);
+    /* The room would have held some of the next byte's reports. */
+    parted += answer.taken < bytes && !answer.refused && answer.reports < room_length / 6;
     given[right.refused]++;
     cases++;
     return answer;
@@ -54,12 +57,13 @@ static kamordast_scanned compared(int of_images, uint32_t state, size_t bytes, s
 /* A table at random, one in three with states in levels, and its images. */
 static void some_table(uint32_t n, uint32_t k) {
     uint32_t bound = below(4) ? below(6) : 65535;
-    table_length = below(3) ? make_table(table, n, k, below(257)) : make_levels(table, n, k, below(257), 1 + below(n), 1 + below(3));
+    table_length = either_edition(table, below(3) ? make_table(table, n, k, below(257)) : make_levels(table, n, k, below(257), 1 + below(n), 1 + below(3)));
     make_defaults(defaults, n, below(257));
     for (uint32_t i = 0; i < IMAGES; i++) {
         kamordast_built built = i < 4 ? kamordast_compact_in_order(table, table_length, i, (uint16_t)bound, images[i], LONGEST_IMAGE)
                                       : kamordast_write(table, table_length, defaults, 2 * (size_t)n, images[i], LONGEST_IMAGE);
         if (built.refused) fail("a sound table was refused", cases);
+        old_loader(images[i], built.length, 0, cases);
         image_length[i] = built.length;
     }
 }
@@ -70,10 +74,11 @@ static void some_payload(size_t bytes) {
 
 /* One payload from one state, in rooms for all that could be reported, for just the reports, one byte short, shorter, and none. */
 static void with_rooms(uint32_t state, size_t bytes) {
-    size_t exact = 6 * (size_t)compared(IMAGES, state, bytes, 6 * bytes).reports;
+    size_t exact = 6 * (size_t)compared(IMAGES, state, bytes, 6 * (edition_in(table) == 2 ? KAMORDAST_MOST_LABELS : 1) * bytes).reports;
     compared(IMAGES, state, bytes, exact);
     compared(IMAGES, state, bytes, 0);
     if (exact == 0) return;
+    compared(IMAGES, state, bytes, 6 * (size_t)below((uint32_t)exact / 6));
     compared(IMAGES, state, bytes, exact - 1);
     compared(IMAGES, state, bytes, below((uint32_t)exact));
 }
@@ -86,10 +91,10 @@ static void long_payloads(uint32_t n) {
     if (compared(IMAGES, n, 65537, 60).refused != 14) fail("15 came before 14", cases);
 }
 
-/* The table cut or altered where its grounds look; an altered label is taken. */
+/* The table cut or altered where its grounds look. */
 static void damaged(uint32_t n) {
-    static const uint32_t ends[] = {2, 4, 6, 262};
-    uint32_t end = ends[below(4)];
+    const uint32_t ends[] = {2, 4, 6, 262, (uint32_t)rows_in(table)};
+    uint32_t end = ends[below(5)];
     if (below(4) == 0) table_length -= 1 + below((uint32_t)table_length);
     else if (below(2)) table[below(end)] = (uint8_t)below(256);
     else set16(table, 262 + 2 * below((uint32_t)(table_length - 262) / 2), n + below(3));
@@ -116,7 +121,7 @@ static void side_by_side(int tables) {
 /* What a walk or a scan of the first bytes of the payload shows: all but the hops. */
 typedef struct {
     uint32_t numbers[4];
-    uint8_t room[6 * SHORT];
+    uint8_t room[6 * KAMORDAST_MOST_LABELS * SHORT];
 } shown;
 
 static shown show(kamordast_scanned (*run)(const uint8_t *, size_t, uint32_t, const uint8_t *, size_t, uint8_t *, size_t), const uint8_t *in, size_t length) {
@@ -142,7 +147,7 @@ static enum place fault(const shown *right, const uint8_t *t, const uint8_t *ima
 static int alter_table(uint8_t *copy, const shown *right, uint32_t n, uint32_t k) {
     for (int tries = 0; tries < 200; tries++) {
         memcpy(copy, table, table_length);
-        set16(copy, 262 + 2 * n + 2 * below(n * k), below(n));
+        set16(copy, rows_in(table) + 2 * below(n * k), below(n));
         shown seen = show(kamordast_walk, copy, table_length);
         if (!same(&seen, right)) return 1;
     }
@@ -181,12 +186,13 @@ static void told_apart(int tables) {
         if (alter_table(other, &right, n, k)) {
             kamordast_built built = kamordast_compact_in_order(other, table_length, below(4), (uint16_t)below(5), altered, LONGEST_IMAGE);
             if (built.refused || fault(&right, other, altered, built.length) != IN_THE_TABLE) fail("the fault is in the table", cases);
+            old_loader(altered, built.length, 0, cases);
             if (fault(&right, other, images[i], image_length[i]) != IN_THIS_COPY_OF_THE_TABLE) fail("the image is of the table before", cases);
             altered[built.length - 1] ^= 1;
             if (fault(&right, other, altered, built.length) != IN_BOTH) fail("a fault in both", cases);
             in_tables++;
         }
-        set16(other, 262 + 2 * n + 2 * below(n * k), n);
+        set16(other, rows_in(table) + 2 * below(n * k), n);
         if (fault(&right, other, images[i], image_length[i]) != IN_THIS_COPY_OF_THE_TABLE) fail("a refused table", cases);
     }
     if (in_tables < tables / 2 || in_images < tables / 2) fail("too few faults were shown", cases);
@@ -194,7 +200,7 @@ static void told_apart(int tables) {
 }
 
 int main(void) {
-    static const int grounds[] = {0, 1, 2, 3, 6, 7, 10, 14, 15};
+    static const int grounds[] = {0, 1, 2, 3, 6, 7, 10, 14, 15, 19};
     lent_table = guard(LONGEST_TABLE);
     lent_image = guard(LONGEST_IMAGE);
     lent_payload = guard(sizeof payload);
@@ -208,7 +214,8 @@ int main(void) {
         printf(" %d:%llu", grounds[i], (unsigned long long)given[grounds[i]]);
     }
     printf("\n");
-    if (!with_hops) fail("no scan made a hop", scans);
+    if (!with_hops || !parted) fail("a hop, and a room for some reports of a byte, are each to be seen", scans);
+    printf("  room for some reports of a byte in %llu walks\n", (unsigned long long)parted);
     told_apart(500);
     return 0;
 }

@@ -3,26 +3,28 @@
 #include <stdio.h>
 #include <string.h>
 
+#include "editions.h"
 #include "reference.h"
 
-enum { NONE = 65535, LONGEST_IMAGE = 280 + 6 * 512 + 4 * 512 * 256 };
+enum { NONE = 65535, LONGEST_IMAGE = 280 + 6 * 512 + 2 * 16 * 512 + 4 * 512 * 256 };
 
 static uint32_t read16(const uint8_t *b, size_t at) { return b[at] | (uint32_t)b[at + 1] << 8; }
 static uint32_t read32(const uint8_t *b, size_t at) { return read16(b, at) | read16(b, at + 2) << 16; }
 
-/* An accepted image's parts from its front on: behind 12 bytes of front and 256 classes the labels, the records, the entries. The entries of a state begin behind those of the
- * states before it. */
+/* An accepted image's parts from its front on: behind 12 bytes of front and 256 classes the labels, in edition 2 the counts and then the lists, the records, the entries. The
+ * entries of a state begin behind those of the states before it. */
 typedef struct {
     const uint8_t *image;
     uint32_t n;
-    size_t first[512];
+    size_t records, first[512];
 } opened;
 
-static size_t record(const opened *o, uint32_t s) { return 268 + 2 * (size_t)o->n + 4 * (size_t)s; }
+static size_t record(const opened *o, uint32_t s) { return o->records + 4 * (size_t)s; }
 
 static void open_image(const uint8_t *image, opened *o) {
     o->image = image;
-    o->n = read16(image, 0);
+    o->n = states_of(image);
+    o->records = 268 + 2 * (size_t)o->n + 2 * (size_t)labels_behind(image, 268);
     size_t at = record(o, o->n);
     for (uint32_t s = 0; s < o->n; s++) {
         o->first[s] = at;
@@ -61,17 +63,17 @@ size_t reference_served_lines(const uint8_t *image, const uint8_t *payload, size
     reference_columns columns;
     size_t length = 0;
     reference_serve(image, payload, payload_length, &columns);
-    for (uint32_t s = 0; s < read16(image, 0); s++)
+    for (uint32_t s = 0; s < states_of(image); s++)
         length += (size_t)sprintf(text + length, "%u %llu %llu\n", (unsigned)s, (unsigned long long)columns.served[s], (unsigned long long)columns.ran[s]);
     return length;
 }
 
 size_t reference_served_text(const uint8_t *input, size_t length, char *text) {
     if (length > 60000) return (size_t)sprintf(text, "too long\n");
-    /* The trailer's end, by the counts as they stand, in 64 bits; an input that ends before it is judged whole. */
+    /* The trailer's end, by the counts as they stand, those of labels too, in 64 bits; an input that ends before it, or inside the counts of labels, is judged whole. */
     size_t image_length = length;
-    if (length >= 12) {
-        uint64_t end = 280 + 6 * (uint64_t)read16(input, 0) + 4 * (uint64_t)read32(input, 8);
+    if (length >= 12 && (!is_second(input) || length >= 268 + 2 * (size_t)states_of(input))) {
+        uint64_t end = 280 + 6 * (uint64_t)states_of(input) + 2 * (uint64_t)labels_behind(input, 268) + 4 * (uint64_t)read32(input, 8);
         if (end < length) image_length = (size_t)end;
     }
     uint32_t refused = reference_judge_image(input, image_length);
@@ -87,8 +89,10 @@ size_t reference_bounds_text(const uint8_t *input, size_t length, char *text) {
     size_t end = (size_t)sprintf(text, "bound depth worst stored defaults bytes\n");
     for (uint32_t bound = 0; bound <= 3; bound++) {
         size_t built = reference_compact(input, length, 0, bound, image, sizeof image).length;
-        uint32_t n = read16(image, 0), defaults = 0;
-        for (uint32_t s = 0; s < n; s++) defaults += read16(image, 268 + 2 * (size_t)n + 4 * (size_t)s) != NONE;
+        uint32_t defaults = 0;
+        opened o;
+        open_image(image, &o);
+        for (uint32_t s = 0; s < o.n; s++) defaults += read16(image, record(&o, s)) != NONE;
         end += (size_t)sprintf(text + end, "%u %u %u %u %u %zu\n", (unsigned)bound, (unsigned)read16(image, 6), (unsigned)read16(image, built - 4), (unsigned)read32(image, 8),
                                (unsigned)defaults, built);
     }

@@ -3,6 +3,8 @@
 #include <stdlib.h>
 #include <string.h>
 
+#include "editions.h"
+
 enum { NONE = 65535, MOST_STATES = 512, MOST_CLASSES = 256, MOST_PAIRS = MOST_STATES * (MOST_STATES - 1) / 2 };
 
 static uint32_t read16(const uint8_t *b, size_t at) { return b[at] | (uint32_t)b[at + 1] << 8; }
@@ -30,9 +32,9 @@ static uint32_t check_word(const uint8_t *b, size_t length) {
 
 /* The table as numbers. */
 typedef struct {
-    uint32_t n, k, start;
+    uint32_t first_word, n, k, start;
     uint8_t class_of[256];
-    uint32_t label[MOST_STATES];
+    label_lists labels;
     uint32_t next[MOST_STATES][MOST_CLASSES];
 } numbers;
 
@@ -55,26 +57,32 @@ static uint32_t classes_wrong(const uint8_t *class_of, uint32_t k) {
 
 uint32_t reference_judge_table(const uint8_t *t, size_t length) {
     if (length < 6) return 1;
-    size_t n = read16(t, 0), k = read16(t, 2);
+    size_t n = states_of(t), k = read16(t, 2);
     if (n < 1 || n > MOST_STATES || k < 1 || k > MOST_CLASSES) return 2;
-    if (length != 262 + 2 * n + 2 * n * k) return 3;
+    /* Input that ends inside the counts is 3, and no count is tested. */
+    if (length < 262 + 2 * n) return 3;
+    if (counts_wrong(t, 262)) return 19;
+    size_t rows = 262 + 2 * n + 2 * (size_t)labels_behind(t, 262);
+    if (length != rows + 2 * n * k) return 3;
     if (read16(t, 4) >= n) return 6;
     if (classes_wrong(t + 6, (uint32_t)k)) return 7;
+    if (labels_wrong(t, 262)) return 19;
     for (size_t i = 0; i < n * k; i++)
-        if (read16(t, 262 + 2 * n + 2 * i) >= n) return 10;
+        if (read16(t, rows + 2 * i) >= n) return 10;
     return 0;
 }
 
 static numbers *table_numbers(const uint8_t *t) {
     numbers *a = calloc(1, sizeof *a);
-    a->n = read16(t, 0);
+    a->first_word = read16(t, 0);
+    a->n = states_of(t);
     a->k = read16(t, 2);
     a->start = read16(t, 4);
     memcpy(a->class_of, t + 6, 256);
-    for (uint32_t s = 0; s < a->n; s++) {
-        a->label[s] = read16(t, 262 + 2 * s);
-        for (uint32_t c = 0; c < a->k; c++) a->next[s][c] = read16(t, 262 + 2 * a->n + 2 * (s * a->k + c));
-    }
+    read_lists(t, 262, &a->labels);
+    size_t rows = 262 + 2 * (size_t)a->n + 2 * (size_t)labels_behind(t, 262);
+    for (uint32_t s = 0; s < a->n; s++)
+        for (uint32_t c = 0; c < a->k; c++) a->next[s][c] = read16(t, rows + 2 * (s * a->k + c));
     return a;
 }
 
@@ -116,14 +124,18 @@ static uint32_t worst_of(const rows *r, uint32_t n, const uint8_t *class_of) {
 
 uint32_t reference_judge_image(const uint8_t *b, size_t length) {
     if (length < 24) return 1;
-    uint64_t n = read16(b, 0), k = read16(b, 2), m = read32(b, 8);
+    uint64_t n = states_of(b), k = read16(b, 2), m = read32(b, 8);
     if (n < 1 || n > MOST_STATES || k < 1 || k > MOST_CLASSES || m < k || m > n * k) return 2;
-    if (length != 280 + 6 * n + 4 * m) return 3;
+    /* Input that ends inside the counts is 3, and no count is tested. */
+    if (length < 268 + 2 * n) return 3;
+    if (counts_wrong(b, 268)) return 19;
+    size_t records = 268 + 2 * n + 2 * (size_t)labels_behind(b, 268), entries = records + 4 * n;
+    if (length != entries + 4 * m + 12) return 3;
     if (read32(b, length - 8) != length || read32(b, length - 12) != 4 * m + 12) return 4;
     if (read16(b, length - 2) != check_word(b, length - 2)) return 5;
     if (read16(b, 4) >= n) return 6;
     if (classes_wrong(b + 12, (uint32_t)k)) return 7;
-    size_t records = 268 + 2 * n, entries = records + 4 * n;
+    if (labels_wrong(b, 268)) return 19;
     uint64_t sum = 0;
     for (size_t s = 0; s < n; s++) {
         uint32_t d = read16(b, records + 4 * s), count = read16(b, records + 4 * s + 2);
@@ -161,6 +173,15 @@ uint32_t reference_judge_image(const uint8_t *b, size_t length) {
     return refused;
 }
 
+/* The labels as the first word's edition has them: one for each state, or the counts and then the lists. Answers the place behind them. */
+static uint8_t *append_labels(uint8_t *p, const numbers *a) {
+    int second = a->first_word >= SECOND_EDITION;
+    for (uint32_t s = 0; s < a->n; s++) append16(&p, second ? a->labels.count[s] : a->labels.count[s] ? a->labels.label[s][0] : 0);
+    for (uint32_t s = 0; second && s < a->n; s++)
+        for (uint32_t i = 0; i < a->labels.count[s]; i++) append16(&p, a->labels.label[s][i]);
+    return p;
+}
+
 /* The image of a table with defaults, into a new block; the caller frees it. */
 static uint8_t *image_of(const numbers *a, const uint32_t *fallback, size_t *length) {
     rows *r = malloc(sizeof *r);
@@ -175,15 +196,16 @@ static uint8_t *image_of(const numbers *a, const uint32_t *fallback, size_t *len
                 m++;
             }
     *length = 280 + 6 * a->n + 4 * m;
+    for (uint32_t s = 0; a->first_word >= SECOND_EDITION && s < a->n; s++) *length += 2 * a->labels.count[s];
     uint8_t *image = malloc(*length), *p = image;
-    append16(&p, a->n);
+    append16(&p, a->first_word);
     append16(&p, a->k);
     append16(&p, a->start);
     append16(&p, depth_of(r, a->n));
     append32(&p, m);
     memcpy(p, a->class_of, 256);
     p += 256;
-    for (uint32_t s = 0; s < a->n; s++) append16(&p, a->label[s]);
+    p = append_labels(p, a);
     for (uint32_t s = 0; s < a->n; s++) {
         append16(&p, fallback[s]);
         append16(&p, count[s]);
@@ -223,7 +245,7 @@ reference_built reference_write(const uint8_t *t, size_t length, const uint8_t *
                                 size_t room_length) {
     uint32_t refused = reference_judge_table(t, length);
     if (refused) return refuse(refused);
-    uint32_t n = read16(t, 0), fallback[MOST_STATES];
+    uint32_t n = states_of(t), fallback[MOST_STATES];
     if (defaults_length != 2 * (size_t)n) return refuse(8);
     for (uint32_t s = 0; s < n; s++) {
         fallback[s] = read16(defaults, 2 * s);
@@ -459,8 +481,8 @@ reference_built reference_compact(const uint8_t *t, size_t length, uint32_t orde
 static rows *image_rows(const uint8_t *b) {
     rows *r = malloc(sizeof *r);
     memset(r->stored, 255, sizeof r->stored);
-    uint32_t n = read16(b, 0);
-    size_t records = 268 + 2 * (size_t)n, at = records + 4 * (size_t)n;
+    uint32_t n = states_of(b);
+    size_t records = 268 + 2 * (size_t)n + 2 * (size_t)labels_behind(b, 268), at = records + 4 * (size_t)n;
     for (uint32_t s = 0; s < n; s++) {
         r->fallback[s] = read16(b, records + 4 * s);
         for (uint32_t j = read16(b, records + 4 * s + 2); j > 0; j--, at += 4) r->stored[s][read16(b, at)] = (int32_t)read16(b, at + 2);
@@ -471,13 +493,14 @@ static rows *image_rows(const uint8_t *b) {
 reference_built reference_expand(const uint8_t *b, size_t length, uint8_t *room, size_t room_length) {
     uint32_t refused = reference_judge_image(b, length);
     if (refused) return refuse(refused);
-    uint32_t n = read16(b, 0), k = read16(b, 2), hops;
+    uint32_t n = states_of(b), k = read16(b, 2), hops;
     rows *r = image_rows(b);
-    size_t result_length = 262 + 2 * (size_t)n + 2 * (size_t)n * k;
+    /* The classes and all of the labels stand in the table as in the image. */
+    size_t same = 256 + 2 * (size_t)n + 2 * (size_t)labels_behind(b, 268), result_length = 6 + same + 2 * (size_t)n * k;
     uint8_t *result = malloc(result_length), *p = result;
     memcpy(p, b, 6);
-    memcpy(p + 6, b + 12, 256 + 2 * (size_t)n);
-    p += 262 + 2 * (size_t)n;
+    memcpy(p + 6, b + 12, same);
+    p += 6 + same;
     for (uint32_t s = 0; s < n; s++)
         for (uint32_t c = 0; c < k; c++) append16(&p, look_up(r, s, c, &hops));
     free(r);
@@ -487,19 +510,23 @@ reference_built reference_expand(const uint8_t *b, size_t length, uint8_t *room,
 reference_scanned reference_scan(const uint8_t *b, size_t length, uint32_t state, const uint8_t *payload, size_t payload_length,
                                  uint8_t *room, size_t room_length) {
     reference_scanned answer = {reference_judge_image(b, length), 0, 0, 0, 0};
-    if (!answer.refused && state >= read16(b, 0)) answer.refused = 14;
+    if (!answer.refused && state >= states_of(b)) answer.refused = 14;
     if (!answer.refused && payload_length > 65536) answer.refused = 15;
     if (answer.refused) return answer;
     rows *r = image_rows(b);
+    label_lists labels;
+    read_lists(b, 268, &labels);
     answer.state = state;
     for (size_t i = 0; i < payload_length; i++) {
-        uint32_t hops, to = look_up(r, answer.state, b[12 + payload[i]], &hops), label = read16(b, 268 + 2 * to);
-        if (label) {
-            if (6 * ((size_t)answer.reports + 1) > room_length) break;
-            uint8_t *p = room + 6 * answer.reports++;
+        uint32_t hops, to = look_up(r, answer.state, b[12 + payload[i]], &hops), count = labels.count[to];
+        /* All reports of the byte, or none of them and the byte is not taken. */
+        if (6 * ((size_t)answer.reports + count) > room_length) break;
+        uint8_t *p = room + 6 * (size_t)answer.reports;
+        for (uint32_t j = 0; j < count; j++) {
             append32(&p, (uint32_t)i);
-            append16(&p, label);
+            append16(&p, labels.label[to][j]);
         }
+        answer.reports += count;
         answer.state = to;
         answer.hops += hops;
         answer.taken++;
@@ -511,22 +538,26 @@ reference_scanned reference_scan(const uint8_t *b, size_t length, uint32_t state
 reference_scanned reference_walk(const uint8_t *t, size_t length, uint32_t state, const uint8_t *payload, size_t payload_length,
                                  uint8_t *room, size_t room_length) {
     reference_scanned answer = {reference_judge_table(t, length), 0, 0, 0, 0};
-    if (!answer.refused && state >= read16(t, 0)) answer.refused = 14;
+    if (!answer.refused && state >= states_of(t)) answer.refused = 14;
     if (!answer.refused && payload_length > 65536) answer.refused = 15;
     if (answer.refused) return answer;
-    size_t n = read16(t, 0), k = read16(t, 2), left = room_length;
-    /* The table from its front on: 6 bytes, 256 classes, n labels, and then the rows, one for each state. */
-    const uint8_t *labels = t + 6 + 256, *rows = labels + 2 * n;
+    size_t n = states_of(t), k = read16(t, 2), left = room_length / 6;
+    /* The table from its front on: 6 bytes, 256 classes, n labels, or n counts and then the lists, and then the rows, one for each state. */
+    const uint8_t *words = t + 6 + 256, *rows = words + 2 * n, *list[MOST_STATES];
+    for (size_t s = 0; s < n; s++) {
+        list[s] = is_second(t) ? rows : words + 2 * s;
+        if (is_second(t)) rows += 2 * read16(words, 2 * s);
+    }
     for (answer.state = state; answer.taken < payload_length; answer.taken++) {
         const uint8_t *row = rows + 2 * k * answer.state;
-        uint32_t to = read16(row, 2 * (size_t)t[6 + payload[answer.taken]]), label = read16(labels, 2 * (size_t)to);
-        if (label && left < 6) break;
-        if (label) {
+        uint32_t to = read16(row, 2 * (size_t)t[6 + payload[answer.taken]]), word = read16(words, 2 * (size_t)to), count = is_second(t) ? word : word > 0;
+        if (count > left) break;
+        for (uint32_t j = 0; j < count; j++) {
             append32(&room, answer.taken);
-            append16(&room, label);
-            left -= 6;
-            answer.reports++;
+            append16(&room, read16(list[to], 2 * (size_t)j));
         }
+        left -= count;
+        answer.reports += count;
         answer.state = to;
     }
     return answer;

@@ -1,4 +1,5 @@
-/* An independent reading of the definition paper and the requests, plain and slow: what the proved operations are compared with. It shares no code with them. */
+/* An independent reading of the definition paper and the requests, plain and slow: what the proved operations are compared with. It shares no code with them.
+ * Tables and images are of either edition, and a result is of its input's. */
 #ifndef REFERENCE_H
 #define REFERENCE_H
 

@@ -44,7 +44,7 @@ fn key_of(order: u8, du: u16, dv: u16, lu: u16, lv: u16) -> u32
     if order == 1 {
         return across;
     }
-    let longest = joining::larger(lu, lv) as u32;
+    let longest = words::larger(lu, lv) as u32;
     if across < longest {
         return 0;
     }
@@ -61,7 +61,7 @@ fn longest_by_tree(d: &[u16; 512], tree: &[u16; 512], n: usize) -> [u16; 512]
         let t = tree[x];
         if t < 512 {
             let at = t as usize;
-            let m = joining::larger(d[x], most[at]);
+            let m = words::larger(d[x], most[at]);
             most[at] = m;
         }
     }

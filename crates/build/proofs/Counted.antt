@@ -1,4 +1,4 @@
--- The counts of a table with its defaults in a list: m, the length of the image, and its records and entries as those of the view.
+-- The counts of a table with its defaults in a list: m, the labels held, the length of the image, and its records and entries as those of the view.
 use mathlib.Core.Path.{_≡_, sym, ap, ap₂, _∙_}
 use mathlib.Core.List.{List, _++_}
 use Prim.Native.Nat.{ℕ, _*_, _≤_, _<_}
@@ -7,13 +7,15 @@ use native.Mathlib.Omega.{arith}
 use lib.ListN.{length, getD}
 use Rattle.paper.specs.Below.{each, sum}
 use Rattle.paper.specs.Words.{bytes16}
-use Rattle.paper.specs.Table.{classes}
+use Rattle.paper.specs.Table.{edition, states, classes, labels}
 use Rattle.paper.specs.View.{View}
 use Rattle.paper.specs.Image.{defaultFrom, imageLength}
-use Rattle.paper.specs.Results.{recordBytes, entryBytes}
+use Rattle.paper.specs.Results.{labelsHeld, recordBytes, entryBytes}
 use Rattle.paper.proofs.Below.{each-same}
 use Rattle.paper.proofs.Sums.{sum-same, sum-bound}
 use Rattle.paper.proofs.Counts.{count-le}
+use Rattle.paper.proofs.Labels.{behind-held}
+use Rattle.facts.proofs.TableFacts.{table-few-labels}
 use Rattle.trips.proofs.Spans.{length-each}
 use Rattle.trips.proofs.Labels.{default-number}
 use Rattle.trips.proofs.ImageParts.{total, rowPlace, row-wide}
@@ -25,12 +27,12 @@ use Rattle.build.specs.Measured.{listImage, Measured}
 use Rattle.build.proofs.Rows.{entries-row, entries-count}
 
 -- All entries together are not more than 512 times 256.
-pub counts-few : (t : List ℕ) (n : ℕ) (def counts : List ℕ) → n ≤ 512 → classes t ≤ 256 → Counts t n def counts → sum n (λ s. getD counts s 0) ≤ 131072
+counts-few : (t : List ℕ) (n : ℕ) (def counts : List ℕ) → n ≤ 512 → classes t ≤ 256 → Counts t n def counts → sum n (λ s. getD counts s 0) ≤ 131072
 counts-few t n def counts hn hk counted =
     let few : (s : ℕ) → s < n → getD counts s 0 ≤ classes t = λ s h. omega (arith, counted s h, count-le (classes t) (λ c. kept t s c (defaultFrom (getD def s 0)))) in
     omega (arith, sum-bound n (classes t) (λ s. getD counts s 0) few, mul-le-mul hn hk)
 
-module _ {t : List ℕ} {n k : ℕ} {def counts : List ℕ} {m : ℕ} (M : Measured t n k def counts m) where
+module _ {t : List ℕ} {n k held : ℕ} {def counts : List ℕ} {m : ℕ} (M : Measured t n k held def counts m) where
   -- The view of the table with the defaults of the list.
   abbrev v : View
   v = listView t def
@@ -46,9 +48,18 @@ module _ {t : List ℕ} {n k : ℕ} {def counts : List ℕ} {m : ℕ} (M : Measu
   pub total-few : m ≤ 131072
   total-few = omega (arith, M .total-is, counts-few t n def counts (omega (arith, M .states-are, M .accepted .few-states)) (M .accepted .few-classes) (M .counted))
 
-  -- The image is as long as n and m say.
-  pub image-long : length (listImage t def) ≡ imageLength n m
-  image-long = omega (arith, length-of-image t (λ s. defaultFrom (getD def s 0)), total-are, M .states-are)
+  -- The labels held are those of the table's edition.
+  pub labels-held : held ≡ labelsHeld (edition t) (states t) (labels t)
+  unfolding labels
+  labels-held = M .held-are ∙ behind-held t 262 (states t) (edition t)
+
+  -- They are not above 512 times 16.
+  pub held-few : held ≤ 8192
+  held-few = omega (arith, M .held-are, table-few-labels t (M .accepted))
+
+  -- The image is as long as n, m and the labels held say.
+  pub image-long : length (listImage t def) ≡ imageLength n m held
+  image-long = omega (arith, length-of-image t (λ s. defaultFrom (getD def s 0)), total-are, M .states-are, M .held-are)
 
   -- The records by the two lists are those of the view.
   pub records-are : each n (listedRecord def counts) ≡ each (v .states) (recordBytes v)
@@ -66,4 +77,4 @@ module _ {t : List ℕ} {n k : ℕ} {def counts : List ℕ} {m : ℕ} (M : Measu
 
   -- The entries take 4m bytes.
   pub length-entries : length (each n (keptRow t k def)) ≡ 4 * m
-  length-entries = omega (arith, ap length entries-are, length-each (entryBytes v) (rowPlace v) (row-wide v) (v .states), total-are)
+  length-entries = omega (arith, ap length entries-are, length-each (entryBytes v) (rowPlace v held) (row-wide v held) (v .states), total-are)

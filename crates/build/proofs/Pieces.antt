@@ -8,12 +8,13 @@ use lib.ListN.{length, take, drop, length-append}
 use lib.Seq.{take-at}
 use Rattle.paper.specs.Below.{each, list}
 use Rattle.paper.specs.Words.{bytes16, Bytes}
-use Rattle.paper.specs.Table.{states, classOf, labels, next}
+use Rattle.paper.specs.Table.{edition, states, classOf, labels, behind, next}
 use Rattle.paper.specs.Image.{defaultFrom}
 use Rattle.paper.specs.Results.{labelBytes}
+use Rattle.paper.proofs.Labels.{behind-held}
 use Rattle.trips.proofs.Spans.{Spans, spans-then, length-each}
 use Rattle.trips.proofs.Numbers.{back-bytes, length-bytes}
-use Rattle.trips.proofs.Labels.{back-labels, length-labels}
+use Rattle.trips.proofs.LabelBytes.{back-labels, length-labels}
 use Rattle.words.specs.Placed.{placed}
 use Rattle.words.proofs.Placed.{placed-nothing}
 use Rattle.tally.specs.Kept.{kept}
@@ -23,20 +24,21 @@ use Rattle.build.specs.Pieces.{classesAndLabels, listedRecord, keptEntry
 part-taken : {b part : List ℕ} {x z : ℕ} (w : ℕ) → Spans b x part z → length part ≡ w → take w (drop x b) ≡ part
 part-taken {b} {part} {z} w h e = ap (take w) (h .cut) ∙ take-at part (drop z b) w e
 
--- The classes and labels take 256 bytes and two for each state.
-pub length-labelled : (t : List ℕ) → length (classesAndLabels t) ≡ 256 + 2 * states t
-unfolding classesAndLabels
+-- The classes and labels take 256 bytes, two for each state, and two for each label behind the counts.
+pub length-labelled : (t : List ℕ) → length (classesAndLabels t) ≡ 256 + 2 * states t + 2 * behind t
+unfolding classesAndLabels labels
 length-labelled t =
-    omega (arith, length-append (list 256 (classOf t)) (labelBytes (states t) (labels t)), length-bytes 256 (classOf t), length-labels (states t) (labels t))
+    omega (arith, length-append (list 256 (classOf t)) (labelBytes (edition t) (states t) (labels t)), length-bytes 256 (classOf t), length-labels (edition t) (states t) (labels t), behind-held t 262 (states t) (edition t))
 
 -- They stand behind the first 6 bytes of a table.
-pub labels-copied : (t : List ℕ) (n : ℕ) → Bytes t → n ≡ states t → 262 + 2 * n ≤ length t → take (256 + 2 * n) (drop 6 t) ≡ classesAndLabels t
+pub labels-copied : (t : List ℕ) (n held : ℕ) → Bytes t → n ≡ states t → held ≡ behind t → 262 + 2 * n + 2 * held ≤ length t
+    → take (256 + 2 * n + 2 * held) (drop 6 t) ≡ classesAndLabels t
 unfolding classesAndLabels labels
-labels-copied t n B e h =
-    rw e
-    (part-taken (256 + 2 * states t)
-    (spans-then (back-bytes {b = t} 6 256 (classOf t) (omega arith) (λ x hx. refl)) (back-labels {b = t} 262 (states t) (labels t) B (omega arith) (λ s hs. refl)))
-    (length-labelled t))
+labels-copied t n held B N H h =
+    part-taken (256 + 2 * n + 2 * held)
+    (spans-then (back-bytes {b = t} 6 256 (classOf t) (omega arith) (λ x hx. refl))
+    (back-labels {b = t} 262 (states t) (labels t) (edition t) B (omega (arith, behind-held t 262 (states t) (edition t))) (λ s hs. refl)))
+    (omega (arith, length-labelled t))
 
 -- A record takes 4 bytes.
 pub length-record : (def counts : List ℕ) (s : ℕ) → length (listedRecord def counts s) ≡ 4

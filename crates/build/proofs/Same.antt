@@ -7,13 +7,13 @@ use Prim.Native.Nat.{ℕ, _<_}
 use lib.ListN.{length, getD}
 use Rattle.paper.specs.Below.{each, list}
 use Rattle.paper.specs.Words.{bytes16, words, checkWord}
-use Rattle.paper.specs.Table.{states, classes, start, classOf, labels, next}
-use Rattle.paper.specs.View.{View, worstOf}
-use Rattle.paper.specs.Results.{defaultNumber, labelBytes, recordBytes, entryBytes, front, trailer, parts, imageOfView, differs, entriesOf, tableView, imageOf}
+use Rattle.paper.specs.Table.{edition, states, classes, start, classOf, labels, next}
+use Rattle.paper.specs.View.{View}
+use Rattle.paper.specs.Results.{defaultNumber, labelBytes, labelsHeld, recordBytes, entryBytes, front, trailer, parts, imageOfView, differs, entriesOf, tableView, imageOf}
 use Rattle.paper.proofs.Below.{each-same}
 use Rattle.paper.proofs.Chain.{Inside}
 use Rattle.trips.proofs.Agree.{Agree, total-same, depth-same, worst-same}
-use Rattle.trips.proofs.ImageParts.{total}
+use Rattle.trips.proofs.ImageParts.{end}
 use Rattle.tally.specs.Kept.{kept}
 use Rattle.tally.proofs.Owned.{kept-differs}
 
@@ -58,20 +58,25 @@ module _ (t : List ℕ) (f g : ℕ → Option ℕ) (same : (s : ℕ) → s < sta
 
   -- The parts of an image of a view of this table.
   abbrev ended : View → List ℕ → List ℕ
-  ended u e = parts u (start t) (classOf t) (labels t) e
+  ended u e = parts (edition t) u (start t) (classOf t) (labels t) e
 
   parts-same : (e : List ℕ) → ended v e ≡ ended w e
   unfolding parts
   parts-same e =
-      ap₂ _++_ (ap₂ (front (states t) (classes t) (start t)) (depth-same v w views-agree inside) (total-same v w views-agree))
+      ap₂ _++_ (ap₂ (front (edition t) (states t) (classes t) (start t)) (depth-same v w views-agree inside) (total-same v w views-agree))
       (ap (λ (l : List ℕ). list 256 (classOf t) ++ l)
-      (ap (λ (l : List ℕ). labelBytes (states t) (labels t) ++ l) (ap₂ _++_ records-same (ap (λ (l : List ℕ). l ++ e) rows-same))))
+      (ap (λ (l : List ℕ). labelBytes (edition t) (states t) (labels t) ++ l) (ap₂ _++_ records-same (ap (λ (l : List ℕ). l ++ e) rows-same))))
+
+  -- The trailer of such an image, but for the check word.
+  abbrev tail : View → List ℕ
+  tail u = end (edition t) u (start t) (classOf t) (labels t)
 
   -- The images are the same.
   pub image-same : imageOf t f ≡ imageOf t g
   unfolding imageOf imageOfView
   image-same =
-      let ends : trailer (states t) (total v) (worstOf v (classOf t)) ≡ trailer (states t) (total w) (worstOf w (classOf t)) =
-      ap₂ (trailer (states t)) (total-same v w views-agree) (worst-same v w views-agree inside (classOf t) (classOf t) (λ x h. refl)) in
-      let body = parts-same (trailer (states t) (total v) (worstOf v (classOf t))) ∙ ap (ended w) ends in
+      let ends : tail v ≡ tail w =
+      ap₂ (λ (m worst : ℕ). trailer (states t) m (labelsHeld (edition t) (states t) (labels t)) worst)
+      (total-same v w views-agree) (worst-same v w views-agree inside (classOf t) (classOf t) (λ x h. refl)) in
+      let body = parts-same (tail v) ∙ ap (ended w) ends in
       parts-same _ ∙ ap₂ (λ (e b : List ℕ). ended w (e ++ bytes16 (checkWord (words b)))) ends body

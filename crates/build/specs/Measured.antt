@@ -5,7 +5,7 @@ use Prim.Native.Nat.{ℕ}
 use lib.Dec.{ltb}
 use lib.ListN.{length, getD}
 use Rattle.paper.specs.Below.{sum}
-use Rattle.paper.specs.Table.{states, classes}
+use Rattle.paper.specs.Table.{states, classes, behind}
 use Rattle.paper.specs.Refusals.{first}
 use Rattle.paper.specs.Image.{defaultFrom}
 use Rattle.paper.specs.Results.{imageOf}
@@ -19,11 +19,12 @@ use Rattle.tally.specs.Kept.{Counts}
 abbrev pub listImage : List ℕ → List ℕ → List ℕ
 listImage t def = imageOf t (λ s. defaultFrom (getD def s 0))
 
--- An accepted table of n states and k classes with defaults in range, the count of each state, and m.
-pub record Measured (t : List ℕ) (n k : ℕ) (def counts : List ℕ) (m : ℕ) : Type 0 where
+-- An accepted table of n states and k classes, with so many labels held behind their counts and defaults in range, the count of each state, and m.
+pub record Measured (t : List ℕ) (n k held : ℕ) (def counts : List ℕ) (m : ℕ) : Type 0 where
   pub accepted : AcceptedTable t
   pub states-are : n ≡ states t
   pub classes-are : k ≡ classes t
+  pub held-are : held ≡ behind t
   pub range : InRange n def
   pub counted : Counts t n def counts
   pub total-is : m ≡ sum n (λ s. getD counts s 0)

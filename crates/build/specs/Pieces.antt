@@ -5,14 +5,14 @@ use Prim.Native.Nat.{ℕ}
 use lib.ListN.{getD}
 use Rattle.paper.specs.Below.{each, list}
 use Rattle.paper.specs.Words.{bytes16}
-use Rattle.paper.specs.Table.{states, classOf, labels, next}
+use Rattle.paper.specs.Table.{edition, states, classOf, labels, next}
 use Rattle.paper.specs.Image.{defaultFrom}
 use Rattle.paper.specs.Results.{labelBytes}
 use Rattle.tally.specs.Kept.{kept}
 
 -- The class of each byte, and the labels of each state.
 unfoldable pub classesAndLabels : List ℕ → List ℕ
-classesAndLabels t = list 256 (classOf t) ++ labelBytes (states t) (labels t)
+classesAndLabels t = list 256 (classOf t) ++ labelBytes (edition t) (states t) (labels t)
 
 -- The record of a state, by the list of the defaults and the list of the counts.
 abbrev pub listedRecord : List ℕ → List ℕ → ℕ → List ℕ

@@ -24,12 +24,13 @@ fn image_into(
 {
     let counts = tally::counts_of(t, n, k, def);
     let m = tally::sum_of(&counts, n);
-    let whole = parts::image_length(n, m);
+    let held = labels::behind(t, 262, n, words::get16(t, 0));
+    let whole = parts::image_length(n, m, held);
     if room.len() < whole as usize {
         return answers::not_built(16);
     }
     let worst = tally::worst_of(t, n, k, def, order);
-    parts::emit(t, n, k, def, &counts, m, depth, worst, room);
+    parts::emit(t, n, k, held, def, &counts, m, depth, worst, room);
     Built {
         refused: 0,
         length: whole,
@@ -44,7 +45,7 @@ pub fn write(table: &[u8], defaults: &[u8], room: &mut [u8]) -> Built
     if judged != 0 {
         return answers::not_built(judged);
     }
-    let n = words::get16(table, 0) as usize;
+    let n = labels::states_of(words::get16(table, 0));
     let k = words::get16(table, 2) as usize;
     if defaults::list_bad(defaults, n) {
         return answers::not_built(8);
@@ -70,7 +71,7 @@ pub fn compact(table: &[u8], order: u32, bound: u16, room: &mut [u8]) -> Built
     if judged != 0 {
         return answers::not_built(judged);
     }
-    let n = words::get16(table, 0) as usize;
+    let n = labels::states_of(words::get16(table, 0));
     let k = words::get16(table, 2) as usize;
     let def = choice::defaults_of(table, n, k, order as u8, bound);
     let o = chains::order_of(&def, n);

@@ -5,7 +5,7 @@ ghost use Prim.Native.Nat.{_+_, _*_, _%_, _≤_, _<_, _^_};
 ghost use lib.ListN.{length, take};
 ghost use Rattle.paper.specs.Below.{each};
 ghost use Rattle.paper.specs.Words.{bytes16, words, checkWord};
-ghost use Rattle.paper.specs.Table.{states, classes, start, classOf};
+ghost use Rattle.paper.specs.Table.{edition, states, classes, start, classOf, behind};
 ghost use Rattle.paper.specs.View.{depthOf, worstOf};
 ghost use Rattle.paper.specs.Image.{imageLength};
 ghost use Rattle.paper.specs.Results.{front, trailer};
@@ -17,10 +17,10 @@ ghost use Rattle.tally.specs.Owned.{listView};
 ghost use Rattle.build.specs.Pieces.{classesAndLabels, listedRecord, keptEntry, keptRow};
 ghost use Rattle.build.specs.Measured.{listImage, Measured};
 
-// Writes the front: n, k and start as the table states them, depth and m.
+// Writes the front: n with the edition, k and start as the table states them, depth and m.
 fn put_front(t: &[u8], depth: u16, m: u32, room: &mut [u8])
     requires { ⌜ (6 ≤ length (now t)) × (12 ≤ length (now room)) ⌝ }
-    ensures { λ _. ⌜ now (room .exit) ≡ placed (now (room .entry)) 0 (front (states (now (t .entry))) (classes (now (t .entry))) (start (now (t .entry))) depth m) ⌝ }
+    ensures { λ _. ⌜ now (room .exit) ≡ placed (now (room .entry)) 0 (front (edition (now (t .entry))) (states (now (t .entry))) (classes (now (t .entry))) (start (now (t .entry))) depth m) ⌝ }
 {
     words::put16(room, 0, words::get16(t, 0));
     words::put16(room, 2, words::get16(t, 2));
@@ -30,11 +30,11 @@ fn put_front(t: &[u8], depth: u16, m: u32, room: &mut [u8])
 }
 
 // Copies the classes and the labels of a table.
-fn put_labels(t: &[u8], n: usize, room: &mut [u8])
-    requires { ⌜ (n ≡ states (now t)) × (n ≤ 512) × (262 + 2 * n ≤ length (now t)) × (268 + 2 * n ≤ length (now room)) ⌝ }
+fn put_labels(t: &[u8], n: usize, held: usize, room: &mut [u8])
+    requires { ⌜ (n ≡ states (now t)) × (held ≡ behind (now t)) × (262 + 2 * n + 2 * held ≤ length (now t)) × (268 + 2 * n + 2 * held ≤ length (now room)) ⌝ }
     ensures { λ _. ⌜ now (room .exit) ≡ placed (now (room .entry)) 12 (classesAndLabels (now (t .entry))) ⌝ }
 {
-    words::copy(t, 6, 256 + 2 * n, room, 12);
+    words::copy(t, 6, 256 + 2 * n + 2 * held, room, 12);
 }
 
 // Writes two numbers of 16 bits, one behind the other.
@@ -118,20 +118,20 @@ fn put_entries(t: &[u8], n: usize, k: usize, def: &[u16; 512], room: &mut [u8], 
 }
 
 // The length of an image.
-pub fn image_length(n: usize, m: u32) -> u32
-    requires { ⌜ (n ≤ 512) × (m ≤ 131072) ⌝ }
-    ensures { λ r. ⌜ r ≡ imageLength n m ⌝ }
+pub fn image_length(n: usize, m: u32, held: usize) -> u32
+    requires { ⌜ (n ≤ 512) × (m ≤ 131072) × (held ≤ 8192) ⌝ }
+    ensures { λ r. ⌜ r ≡ imageLength n m held ⌝ }
 {
-    280 + 6 * n as u32 + 4 * m
+    280 + 6 * n as u32 + 2 * held as u32 + 4 * m
 }
 
 // Writes the trailer but for the check word: distance back, whole length, worst.
-fn put_trailer(n: usize, m: u32, worst: u16, room: &mut [u8], at: usize)
-    requires { ⌜ (n ≤ 512) × (m ≤ 131072) × (at + 10 ≤ length (now room)) ⌝ }
-    ensures { λ _. ⌜ now (room .exit) ≡ placed (now (room .entry)) at (trailer n m worst) ⌝ }
+fn put_trailer(n: usize, m: u32, held: usize, worst: u16, room: &mut [u8], at: usize)
+    requires { ⌜ (n ≤ 512) × (m ≤ 131072) × (held ≤ 8192) × (at + 10 ≤ length (now room)) ⌝ }
+    ensures { λ _. ⌜ now (room .exit) ≡ placed (now (room .entry)) at (trailer n m held worst) ⌝ }
 {
     words::put32(room, at, 4 * m + 12);
-    let whole = image_length(n, m);
+    let whole = image_length(n, m, held);
     words::put32(room, at + 4, whole);
     words::put16(room, at + 8, worst);
 }
@@ -150,6 +150,7 @@ pub fn emit(
     t: &[u8],
     n: usize,
     k: usize,
+    held: usize,
     def: &[u16; 512],
     counts: &[u16; 512],
     m: u32,
@@ -157,14 +158,14 @@ pub fn emit(
     worst: u16,
     room: &mut [u8],
 )
-    requires { ⌜ Measured (now t) n k (now def) (now counts) m × (depth ≡ depthOf (listView (now t) (now def)))
-        × (worst ≡ worstOf (listView (now t) (now def)) (classOf (now t))) × (imageLength n m ≤ length (now room)) ⌝ }
+    requires { ⌜ Measured (now t) n k held (now def) (now counts) m × (depth ≡ depthOf (listView (now t) (now def)))
+        × (worst ≡ worstOf (listView (now t) (now def)) (classOf (now t))) × (imageLength n m held ≤ length (now room)) ⌝ }
     ensures { λ _. ⌜ now (room .exit) ≡ filled (listImage (now (t .entry)) (now (def .entry))) (now (room .entry)) ⌝ }
 {
     put_front(t, depth, m, room);
-    put_labels(t, n, room);
-    put_records(def, counts, n, room, 268 + 2 * n);
-    let end = put_entries(t, n, k, def, room, 268 + 6 * n);
-    put_trailer(n, m, worst, room, end);
+    put_labels(t, n, held, room);
+    put_records(def, counts, n, room, 268 + 2 * n + 2 * held);
+    let end = put_entries(t, n, k, def, room, 268 + 6 * n + 2 * held);
+    put_trailer(n, m, held, worst, room, end);
     put_check(room, end + 10);
 }

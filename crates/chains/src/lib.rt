@@ -19,13 +19,6 @@ fn wide(x: u16) -> usize
     x as usize
 }
 
-// The larger of two numbers.
-fn larger(a: u16, b: u16) -> u16
-    ensures { λ r. ⌜ r ≡ max a b ⌝ }
-{
-    if a < b { b } else { a }
-}
-
 // The largest of the first n numbers, and of `least`.
 pub fn largest(list: &[u16; 512], n: usize, least: u16) -> u16
     requires { ⌜ n ≤ 512 ⌝ }
@@ -34,7 +27,7 @@ pub fn largest(list: &[u16; 512], n: usize, least: u16) -> u16
     let mut most = least;
     for s in 0..n {
         let l = list[s];
-        most = larger(most, l);
+        most = words::larger(most, l);
     }
     most
 }

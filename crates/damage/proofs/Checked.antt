@@ -6,7 +6,7 @@ use native.Mathlib.Omega.{arith}
 use lib.ListN.{length, take}
 use Rattle.paper.specs.Altered.{Altered}
 use Rattle.paper.specs.Words.{Bytes, number16, words, checkWord}
-use Rattle.paper.specs.Image.{states, entries}
+use Rattle.paper.specs.Image.{states, entries, behind}
 use Rattle.paper.specs.Operations.{judgeImage}
 use Rattle.paper.proofs.Words.{words-fit}
 use Rattle.facts.proofs.ImageFacts.{accepted-image}
@@ -42,6 +42,6 @@ checked-altered b b′ h h′ a c c′ = omega (arith, weighed-altered b b′ h 
 pub accepted-checked : (b : List ℕ) → judgeImage b ≡ 0 → Checked b
 accepted-checked b e =
     let A = accepted-image b e in
-    let n = 139 + 3 * states b + 2 * entries b in
+    let n = 139 + 3 * states b + behind b + 2 * entries b in
     let last : length b - 2 ≡ 2 * n = omega (arith, A .long) in
     record { before = n; even = omega (arith, A .long); right = rw last at (A .checked) }

@@ -1,7 +1,7 @@
 -- The parts of a table that are copied from its image.
 use mathlib.Core.Path.{_≡_, _∙_}
 use mathlib.Core.List.{List}
-use Prim.Native.Nat.{ℕ, _+_, _*_, _≤_, _<_}
+use Prim.Native.Nat.{ℕ, _+_, _-_, _≤_, _<_}
 use native.Mathlib.Nat.{zero-add}
 use native.Mathlib.Omega.{arith}
 use lib.ListN.{length, take, drop, length-take, length-drop}
@@ -30,12 +30,11 @@ placed-copied {old} {room} b start count at inside fits e =
       bytes-are = λ i l. byte-within old at part (omega arith) i (omega arith) ∙ getD-take count (drop start b) i 0 l ∙ getD-drop start b i 0;
     })
 
--- Front, classes and labels copied one after the other make the beginning of the table.
-pub copied-front : {b old one two room : List ℕ} {n : ℕ} → Copied b 0 6 old one 0 → Copied b 12 256 one two 6 → Copied b 268 (2 * n) two room 262 → Fronted b n old room
-copied-front {b} {room} {n} F C L =
+-- The front and then the rest copied make the beginning of the table.
+pub copied-front : {b old mid room : List ℕ} {first : ℕ} → 6 ≤ first → Copied b 0 6 old mid 0 → Copied b 12 (first - 6) mid room 6 → Fronted b first old room
+copied-front {first} h F R =
     record {
-      kept = kept-then 0 (262 + 2 * n) (kept-then 0 262 (F .kept) (C .kept) (omega arith) (omega arith) (omega arith) (omega arith)) (L .kept) (omega arith) (omega arith) (omega arith) (omega arith);
-      front-is = λ i h. L .kept .before i (omega arith) ∙ C .kept .before i (omega arith) ∙ rw zero-add at (F .bytes-are i h);
-      classes-are = λ i h. L .kept .before (6 + i) (omega arith) ∙ C .bytes-are i h;
-      labels-are = L .bytes-are;
+      kept = kept-then 0 first (F .kept) (R .kept) (omega arith) (omega arith) (omega arith) (omega arith);
+      front-is = λ i l. R .kept .before i l ∙ rw zero-add at (F .bytes-are i l);
+      rest-is = λ i l. R .bytes-are i (omega arith);
     }

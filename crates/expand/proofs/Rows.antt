@@ -9,12 +9,12 @@ use native.Mathlib.Decide.{decLt}
 use native.Mathlib.Omega.{arith}
 use lib.ListN.{length, getD}
 use Rattle.paper.specs.Words.{number16}
-use Rattle.paper.specs.Table.{tableLength}
 use Rattle.paper.specs.Image.{states, default, defaultFrom, imageView}
 use Rattle.paper.proofs.Tests.{none≢some}
 use Rattle.paper.proofs.Chain.{some-same, chain-default}
+use Rattle.facts.proofs.ImageFacts.{image-few-labels}
 use Rattle.chains.proofs.Defaults.{from-none}
-use Rattle.expand.specs.Rows.{rowAt, Apart, RowCopied, Inherited, Setting}
+use Rattle.expand.specs.Rows.{rowAt, RowIn, Apart, RowCopied, Inherited, Setting}
 use Rattle.expand.proofs.Kept.{kept-same}
 
 -- Of two states one's row ends before the other's begins.
@@ -26,69 +26,69 @@ rows-apart k q s w = go (decLt q s)
     go (no h) = let l : suc s ≤ q = omega arith in inr (omega (arith, mul-le-mul l (le-refl k)))
 
 -- So they have no byte in common.
-pub apart-rows : (n k d s : ℕ) → ¬ (d ≡ s) → Apart (rowAt n k d) (rowAt n k s) k
-apart-rows n k d s w i j hi hj e = go (rows-apart k d s w)
+pub apart-rows : (first k d s : ℕ) → ¬ (d ≡ s) → Apart (rowAt first k d) (rowAt first k s) k
+apart-rows first k d s w i j hi hj e = go (rows-apart k d s w)
   where
     go : (d * k + k ≤ s * k) ⊎ (s * k + k ≤ d * k) → ⊥
     go (inl l) = absurd (omega arith)
     go (inr l) = absurd (omega arith)
 
--- The row of a state stands in the table.
-pub row-in : (n k s : ℕ) → s < n → rowAt n k s + 2 * k ≤ tableLength n k
-row-in n k s h = omega (arith, mul-le-mul h (le-refl k))
+-- The row of a state ends where the table does, or before.
+pub row-ends : (first n k s : ℕ) → s < n → rowAt first k s + 2 * k ≤ rowAt first k n
+row-ends first n k s h = omega (arith, mul-le-mul h (le-refl k))
 
 -- A state without a default inherits nothing.
-pub root-inherited : (def room : List ℕ) (n k s : ℕ) → getD def s 0 ≡ 65535 → Inherited def room room n k s
-root-inherited def room n k s e =
+pub root-inherited : (def room : List ℕ) (first k s : ℕ) → getD def s 0 ≡ 65535 → Inherited def room room first k s
+root-inherited def room first k s e =
     record {
-      kept = kept-same room (rowAt n k s) (rowAt n k s + 2 * k);
+      kept = kept-same room (rowAt first k s) (rowAt first k s + 2 * k);
       numbers = λ d q. absurd (none≢some (defaultFrom (getD def s 0)) d (from-none (getD def s 0) e) q);
     }
 
 -- A state to whose row the row of its default was copied inherits it.
-pub copied-inherited : {old room : List ℕ} {n k s d : ℕ} (def : List ℕ) → RowCopied old room (rowAt n k d) (rowAt n k s) k → defaultFrom (getD def s 0) ≡ some d
-    → Inherited def old room n k s
-copied-inherited {old} {room} {n} {k} {s} {d} def R e =
+pub copied-inherited : {old room : List ℕ} {first k s d : ℕ} (def : List ℕ) → RowCopied old room (rowAt first k d) (rowAt first k s) k → defaultFrom (getD def s 0) ≡ some d
+    → Inherited def old room first k s
+copied-inherited {old} {room} {first} {k} {s} {d} def R e =
     record {
       kept = R .kept;
-      numbers = λ x q c h. R .numbers c h ∙ ap (λ (y : ℕ). number16 old (rowAt n k y + 2 * c)) (some-same (sym e ∙ q));
+      numbers = λ x q c h. R .numbers c h ∙ ap (λ (y : ℕ). number16 old (rowAt first k y + 2 * c)) (some-same (sym e ∙ q));
     }
 
-module _ {b : List ℕ} {n k : ℕ} {begins def room : List ℕ} (S : Setting b n k begins def room) where
+module _ {b : List ℕ} {first k : ℕ} {begins def room : List ℕ} (S : Setting b first k begins def room) where
   -- The numbers are small.
-  pub setting-small : (n ≤ 512) × (k ≤ 256)
-  setting-small = (omega (arith, S .states-are, S .accepted .few-states), omega (arith, S .classes-are, S .accepted .few-classes))
+  pub setting-small : (first ≤ 17670) × (k ≤ 256)
+  setting-small =
+      let A = S .accepted in
+      (omega (arith, S .first-is, A .few-states, image-few-labels b A), omega (arith, S .classes-are, A .few-classes))
 
   -- It is the same with another room as long.
-  pub setting-kept : (other : List ℕ) → length other ≡ length room → Setting b n k begins def other
+  pub setting-kept : (other : List ℕ) → length other ≡ length room → Setting b first k begins def other
   setting-kept other e =
       record {
         accepted = S .accepted;
-        states-are = S .states-are;
+        first-is = S .first-is;
         classes-are = S .classes-are;
         begin = S .begin;
         falls = S .falls;
         fits = omega (arith, S .fits);
       }
 
-  module _ (s : ℕ) (h : s < n) where
-    -- The state is one of the image's.
-    pub state-in : s < states b
-    state-in = omega (arith, S .states-are)
+  module _ (s : ℕ) (h : s < states b) where
+    -- The row of a state stands in the room.
+    pub row-in : RowIn first k room s
+    row-in = (omega (arith, S .accepted .few-states), omega (arith, S .fits, row-ends first (states b) k s h))
 
     -- A default that is kept is that of the image.
     pub default-is : (d : ℕ) → defaultFrom (getD def s 0) ≡ some d → default b s ≡ some d
     default-is d e = S .falls .falls s h ∙ e
 
     -- It is another state.
-    pub default-other : (d : ℕ) → defaultFrom (getD def s 0) ≡ some d → (d < n) × (¬ (d ≡ s))
-    default-other d e =
-        let A = S .accepted .right in
-        (omega (arith, S .states-are, A .inside s d state-in (default-is d e)), λ w. itself (rw w at (default-is d e)))
+    pub default-other : (d : ℕ) → defaultFrom (getD def s 0) ≡ some d → (d < states b) × (¬ (d ≡ s))
+    default-other d e = (S .accepted .right .inside s d h (default-is d e), λ w. itself (rw w at (default-is d e)))
       where
         itself : default b s ≡ some s → ⊥
         itself q =
-            let (l, chained) = S .accepted .right .ends s state-in in
+            let (l, chained) = S .accepted .right .ends s h in
             let (m, on, longer) = chain-default (imageView b) (states b) s s l chained q in
             let same : l ≡ m = some-same (sym chained ∙ on) in
             absurd (omega arith)

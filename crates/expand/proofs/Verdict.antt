@@ -10,7 +10,7 @@ use borrow.Author.Tests.{lt-ltb, le-ltb}
 use Rattle.paper.specs.Refusals.{Ground, first}
 use Rattle.paper.specs.Table.{tableLength}
 use Rattle.paper.specs.View.{viewGrounds}
-use Rattle.paper.specs.Image.{states, classes, imageGrounds}
+use Rattle.paper.specs.Image.{states, classes, behind, imageGrounds}
 use Rattle.paper.specs.Results.{tableOf}
 use Rattle.paper.specs.Operations.{filled, judgeImage, expandGrounds, expand}
 use Rattle.paper.specs.Promises.{Expands}
@@ -43,11 +43,11 @@ module _ (b room : List ℕ) where
     unfolding expandGrounds roomGround
     room-decides = first-clear (imageGrounds b) (roomGround b (length room)) (image-clear b A)
 
-    -- The table has the length that the image's counts give.
-    table-long : (size : ℕ) → size ≡ tableLength (states b) (classes b) → length (tableOf b) ≡ size
+    -- The table has the length that the image's counts and labels give.
+    table-long : (size : ℕ) → size ≡ tableLength (states b) (classes b) (behind b) → length (tableOf b) ≡ size
     table-long size e = length-of-table b ∙ sym e
 
-    module _ (size : ℕ) (e : size ≡ tableLength (states b) (classes b)) where
+    module _ (size : ℕ) (e : size ≡ tableLength (states b) (classes b) (behind b)) where
       -- 16: the room is shorter than the table.
       pub expand-short : (answered l : ℕ) → length room < size → answered ≡ 16 → l ≡ 0 → Expands b room answered l room
       unfolding expand roomGround

@@ -3,36 +3,32 @@ ghost use mathlib.Core.Path.{_≡_};
 ghost use mathlib.Core.Option.{some};
 ghost use Prim.Native.Nat.{ℕ, _+_, _*_, _/_, _≤_, _<_};
 ghost use lib.ListN.{length, getD};
-ghost use Rattle.paper.specs.Table.{tableLength};
-ghost use Rattle.paper.specs.Image.{states, classes, defaultFrom, imageView};
+ghost use Rattle.paper.specs.Image.{states, classes, defaultFrom};
 ghost use Rattle.paper.specs.Results.{tableOf};
 ghost use Rattle.paper.specs.Operations.{filled};
 ghost use Rattle.paper.specs.Promises.{Expands};
 ghost use Rattle.facts.proofs.ImageFacts.{AcceptedImage};
 ghost use Rattle.image.specs.Laid.{Row};
-ghost use Rattle.image.specs.Passed.{Passed};
 ghost use Rattle.chains.specs.Orders.{ParentFirst};
-ghost use Rattle.chains.specs.Sweeps.{Falls};
 ghost use Rattle.expand.specs.Kept.{Kept};
-ghost use Rattle.expand.specs.Rows.{rowAt, Apart, RowCopied, Overlaid, Inherited, Setting, RowStands};
-ghost use Rattle.expand.specs.Front.{Fronted};
+ghost use Rattle.expand.specs.Rows.{rowAt, RowIn, Apart, RowCopied, Overlaid, Inherited, Setting, RowStands};
+ghost use Rattle.expand.specs.Front.{rowsAt, Fronted};
 
-// Sets down n, k and the start state, the classes and the labels, as they stand in the image.
-fn put_front(image: &[u8], n: usize, room: &mut [u8])
-    requires { ⌜ (268 + 2 * n ≤ length (now image)) × (262 + 2 * n ≤ length (now room)) ⌝ }
-    ensures { λ _. ⌜ Fronted (now (image .entry)) n (now (room .entry)) (now (room .exit)) ⌝ }
+// Sets down the first word, k and the start state, the classes, and the numbers of the labels, which end where the rows begin, as they stand in the image.
+fn put_front(image: &[u8], first: usize, room: &mut [u8])
+    requires { ⌜ (6 ≤ first) × (first + 6 ≤ length (now image)) × (first ≤ length (now room)) ⌝ }
+    ensures { λ _. ⌜ Fronted (now (image .entry)) first (now (room .entry)) (now (room .exit)) ⌝ }
 {
     words::copy(image, 0, 6, room, 0);
-    words::copy(image, 12, 256, room, 6);
-    words::copy(image, 268, 2 * n, room, 262);
+    words::copy(image, 12, first - 6, room, 6);
 }
 
-// Where the row of a state begins in a table; at n, where the table ends.
-fn row_at(n: usize, k: usize, s: usize) -> usize
-    requires { ⌜ (n ≤ 512) × (k ≤ 256) × (s ≤ n) ⌝ }
-    ensures { λ r. ⌜ r ≡ rowAt n k s ⌝ }
+// Where the row of a state begins in a table whose rows begin at `first`; at n, where the table ends.
+fn row_at(first: usize, k: usize, s: usize) -> usize
+    requires { ⌜ (first ≤ 17670) × (k ≤ 256) × (s ≤ 512) ⌝ }
+    ensures { λ r. ⌜ r ≡ rowAt first k s ⌝ }
 {
-    262 + 2 * n + 2 * (s * k)
+    first + 2 * (s * k)
 }
 
 // Copies the k numbers of the row at `from` to the row at `to`.
@@ -64,39 +60,39 @@ fn put_entries(part: &[u8], room: &mut [u8], at: usize, k: usize)
 }
 
 // Copies the row of the default of a state, if it has one, to the row of the state.
-fn copy_default(def: &[u16; 512], n: usize, k: usize, s: usize, room: &mut [u8])
-    requires { ⌜ (n ≤ 512) × (k ≤ 256) × (s < n) × (tableLength n k ≤ length (now room))
-        × ((d : ℕ) → defaultFrom (getD (now def) s 0) ≡ some d → (d < n) × (¬ (d ≡ s))) ⌝ }
-    ensures { λ _. ⌜ Inherited (now (def .entry)) (now (room .entry)) (now (room .exit)) n k s ⌝ }
+fn copy_default(def: &[u16; 512], first: usize, k: usize, s: usize, room: &mut [u8])
+    requires { ⌜ (first ≤ 17670) × (k ≤ 256) × RowIn first k (now room) s
+        × ((d : ℕ) → defaultFrom (getD (now def) s 0) ≡ some d → RowIn first k (now room) d × (¬ (d ≡ s))) ⌝ }
+    ensures { λ _. ⌜ Inherited (now (def .entry)) (now (room .entry)) (now (room .exit)) first k s ⌝ }
 {
     let d = def[s];
     if d == 65535 {
         return;
     }
-    let from = row_at(n, k, d as usize);
-    let to = row_at(n, k, s);
+    let from = row_at(first, k, d as usize);
+    let to = row_at(first, k, s);
     copy_row(room, from, to, k);
 }
 
 // Sets down the row of a state, where that of its default stands: the default's row, and the state's own entries over it.
 fn put_row(
     image: &[u8],
-    n: usize,
+    first: usize,
     k: usize,
     begins: &[u32; 513],
     def: &[u16; 512],
     s: usize,
     room: &mut [u8],
 )
-    requires { ⌜ Setting (now image) n k (now begins) (now def) (now room) × (s < n)
-        × ((d : ℕ) → defaultFrom (getD (now def) s 0) ≡ some d → RowStands (now image) n k (now room) d) ⌝ }
-    ensures { λ _. ⌜ RowStands (now (image .entry)) n k (now (room .exit)) s × Kept (now (room .entry)) (now (room .exit)) (rowAt n k s) (rowAt n k s + 2 * k) ⌝ }
+    requires { ⌜ Setting (now image) first k (now begins) (now def) (now room) × (s < states (now image))
+        × ((d : ℕ) → defaultFrom (getD (now def) s 0) ≡ some d → RowStands (now image) first k (now room) d) ⌝ }
+    ensures { λ _. ⌜ RowStands (now (image .entry)) first k (now (room .exit)) s × Kept (now (room .entry)) (now (room .exit)) (rowAt first k s) (rowAt first k s + 2 * k) ⌝ }
 {
-    copy_default(def, n, k, s, room);
+    copy_default(def, first, k, s, room);
     put_entries(
         image::entries_of(image, begins, s),
         room,
-        row_at(n, k, s),
+        row_at(first, k, s),
         k,
     );
 }
@@ -104,6 +100,7 @@ fn put_row(
 // Sets down the rows of all states, each after that of its default.
 fn put_rows(
     image: &[u8],
+    first: usize,
     n: usize,
     k: usize,
     begins: &[u32; 513],
@@ -111,27 +108,27 @@ fn put_rows(
     order: &[u16; 512],
     room: &mut [u8],
 )
-    requires { ⌜ Setting (now image) n k (now begins) (now def) (now room) × ParentFirst n (now def) (now order) ⌝ }
-    ensures { λ _. ⌜ ((s : ℕ) → s < n → RowStands (now (image .entry)) n k (now (room .exit)) s)
-        × Kept (now (room .entry)) (now (room .exit)) (262 + 2 * n) (tableLength n k) ⌝ }
+    requires { ⌜ Setting (now image) first k (now begins) (now def) (now room) × (n ≡ states (now image)) × ParentFirst n (now def) (now order) ⌝ }
+    ensures { λ _. ⌜ ((s : ℕ) → s < n → RowStands (now (image .entry)) first k (now (room .exit)) s)
+        × Kept (now (room .entry)) (now (room .exit)) first (rowAt first k n) ⌝ }
 {
     for i in 0..n {
         let s = order[i] as usize;
-        put_row(image, n, k, begins, def, s, room);
+        put_row(image, first, k, begins, def, s, room);
     }
 }
 
 // Fills the first bytes of the room with the table of an accepted image.
-fn fill(image: &[u8], n: usize, k: usize, room: &mut [u8])
-    requires { ⌜ AcceptedImage (now image) × (n ≡ states (now image)) × (k ≡ classes (now image)) × (tableLength n k ≤ length (now room)) ⌝ }
+fn fill(image: &[u8], first: usize, n: usize, k: usize, room: &mut [u8])
+    requires { ⌜ AcceptedImage (now image) × (first ≡ rowsAt (now image)) × (n ≡ states (now image)) × (k ≡ classes (now image)) × (rowAt first k n ≤ length (now room)) ⌝ }
     ensures { λ _. ⌜ now (room .exit) ≡ filled (tableOf (now (image .entry))) (now (room .entry)) ⌝ }
 {
     let m = words::get32(image, 8) as usize;
     let begins = image::begins_of(image, n, m);
     let def = sweep::defaults_of(image, n, m);
     let chains = chains::order_of(&def, n);
-    put_front(image, n, room);
-    put_rows(image, n, k, &begins, &def, &chains.order, room);
+    put_front(image, first, room);
+    put_rows(image, first, n, k, &begins, &def, &chains.order, room);
 }
 
 // Expand: image into table. Every row is copied once and every entry put once, so the steps are in proportion to n k + m.
@@ -142,13 +139,15 @@ pub fn expand(image: &[u8], room: &mut [u8]) -> answers::Built
     if number != 0 {
         return answers::not_built(number);
     }
-    let n = words::get16(image, 0) as usize;
+    let word = words::get16(image, 0);
+    let n = labels::states_of(word);
     let k = words::get16(image, 2) as usize;
-    let length = row_at(n, k, n);
+    let first = 262 + 2 * n + 2 * labels::behind(image, 268, n, word);
+    let length = row_at(first, k, n);
     if room.len() < length {
         return answers::not_built(16);
     }
-    fill(image, n, k, room);
+    fill(image, first, n, k, room);
     answers::Built {
         refused: 0,
         length: length as u32,

@@ -8,13 +8,14 @@ use lib.Dec.{leb, eqb}
 use lib.ListN.{length}
 use borrow.Author.Tests.{leb-false, le-ltb, lt-leb, not-false, eqb-true, eq-eqb}
 use Rattle.paper.specs.Below.{any}
-use Rattle.paper.specs.Table.{states, classes, start, classOf, next, classesBad, tableLength, tableGrounds}
+use Rattle.paper.specs.Table.{edition, states, classes, start, classOf, labels, behind, next, classesBad, tableLength, tableGrounds}
 use Rattle.paper.specs.Operations.{judgeTable}
 use Rattle.paper.specs.Sentences.{Some}
 use Rattle.paper.proofs.Below.{any-at, any-none, any-found, any-some}
 use Rattle.paper.proofs.Refusals.{Clear, accepted, cleared}
 use Rattle.paper.proofs.Tests.{or-both, or-neither, not-differ, same-differ}
 use Rattle.facts.proofs.CountFacts.{InRange, in-range, in-range-clear}
+use Rattle.facts.proofs.LabelFacts.{Labelled, behind-bound, labels-right, labels-clear}
 
 -- Each of so many bytes has a class below k, and each class below k has a byte.
 pub record Classed (bytes k : ℕ) (classOf : ℕ → ℕ) : Type 0 where
@@ -58,9 +59,10 @@ pub record AcceptedTable (t : List ℕ) : Type 0 where
   pub few-states : states t ≤ 512
   pub some-classes : 1 ≤ classes t
   pub few-classes : classes t ≤ 256
-  pub long : length t ≡ tableLength (states t) (classes t)
+  pub long : length t ≡ tableLength (states t) (classes t) (behind t)
   pub begins : start t < states t
   pub all-classed : Classed 256 (classes t) (classOf t)
+  pub all-labelled : (s : ℕ) → s < states t → Labelled (edition t) (labels t s)
   pub inside : (s c : ℕ) → s < states t → c < classes t → next t s c < states t
 
 -- Its counts are in range.
@@ -68,46 +70,62 @@ table-range : (t : List ℕ) → AcceptedTable t → InRange (states t) (classes
 table-range t A = record { some-states = A .some-states; few-states = A .few-states; some-classes = A .some-classes; few-classes = A .few-classes }
 
 table-facts : (t : List ℕ) → Clear (tableGrounds t) → AcceptedTable t
-unfolding tableGrounds
-table-facts t (_, (g₂, (g₃, (g₆, (g₇, (g₁₀, _)))))) =
+unfolding tableGrounds labels
+table-facts t (_, (g₂, (counts, (g₃, (g₆, (g₇, (g₁₉, (g₁₀, _)))))))) =
     let n = states t in
     let k = classes t in
     let R = in-range n k g₂ in
+    let long : length t ≡ tableLength n k (behind t) = not-differ (length t) (tableLength n k (behind t)) g₃ in
     record {
       some-states = R .some-states;
       few-states = R .few-states;
       some-classes = R .some-classes;
       few-classes = R .few-classes;
-      long = not-differ (length t) (tableLength n k) g₃;
+      long = long;
       begins = leb-false n (start t) g₆;
       all-classed = classed k (classOf t) g₇;
+      all-labelled = labels-right t 262 n (edition t) (omega arith) counts g₁₉;
       inside = λ s c hs hc. leb-false n (next t s c) (any-at k c (λ c. leb n (next t s c)) (any-at n s (λ s. any k (λ c. leb n (next t s c))) g₁₀ hs) hc);
     }
 
 -- No ground applies to a table of which the facts hold.
 pub table-clear : (t : List ℕ) → AcceptedTable t → Clear (tableGrounds t)
-unfolding tableGrounds
+unfolding tableGrounds labels
 table-clear t A =
     let n = states t in
-    let k = classes t in (
+    let k = classes t in
+    let (counts, g₁₉) = labels-clear t 262 n (edition t) (A .all-labelled) in (
       le-ltb (length t) 6 (omega (arith, A .long)),
       (
         in-range-clear (table-range t A),
         (
-          same-differ (length t) (tableLength n k) (A .long),
+          counts,
           (
-            lt-leb n (start t) (A .begins),
+            same-differ (length t) (tableLength n k (behind t)) (A .long),
             (
-              classed-clear k (classOf t) (A .all-classed),
+              lt-leb n (start t) (A .begins),
               (
-                any-none n (λ s. any k (λ c. leb n (next t s c))) (λ s hs. any-none k (λ c. leb n (next t s c)) (λ c hc. lt-leb n (next t s c) (A .inside s c hs hc))),
-                refl,
+                classed-clear k (classOf t) (A .all-classed),
+                (
+                  g₁₉,
+                  (
+                    any-none n (λ s. any k (λ c. leb n (next t s c))) (λ s hs. any-none k (λ c. leb n (next t s c)) (λ c hc. lt-leb n (next t s c) (A .inside s c hs hc))),
+                    refl,
+                  ),
+                ),
               ),
             ),
           ),
         ),
       ),
     )
+
+-- At most 8,192 labels stand behind their counts.
+pub table-few-labels : (t : List ℕ) → AcceptedTable t → behind t ≤ 8192
+unfolding labels
+table-few-labels t A =
+    let n = states t in
+    omega (arith, A .few-states, behind-bound t 262 n (edition t) (omega (arith, A .long)) (labels-clear t 262 n (edition t) (A .all-labelled) .0))
 
 -- A table is accepted just where it is so.
 pub accepted-table : (t : List ℕ) → judgeTable t ≡ 0 → AcceptedTable t

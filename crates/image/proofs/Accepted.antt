@@ -6,7 +6,7 @@ use native.Mathlib.Nat.{mul-le-mul}
 use native.Mathlib.Omega.{arith}
 use lib.ListN.{length}
 use Rattle.paper.specs.Image.{states, classes, recordsAt, count, entriesPart}
-use Rattle.facts.proofs.ImageFacts.{AcceptedImage}
+use Rattle.facts.proofs.ImageFacts.{AcceptedImage, image-few-labels}
 use Rattle.image.specs.Laid.{Laid, Row}
 use Rattle.image.proofs.Parts.{part-length, part-class}
 
@@ -16,6 +16,7 @@ accepted-laid b A =
     record {
       few-states = A .few-states;
       few-entries = omega (arith, A .not-many, mul-le-mul (A .few-states) (A .few-classes));
+      few-labels = image-few-labels b A;
       long = A .long;
       counted = A .stated .total;
     }

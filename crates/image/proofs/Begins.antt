@@ -6,14 +6,14 @@ use native.Mathlib.Numerals.{add-one}
 use native.Mathlib.Omega.{arith}
 use lib.ListN.{length, set, length-set}
 use Rattle.paper.specs.Words.{number16}
-use Rattle.paper.specs.Image.{states, entriesAt, recordsAt, count, entryAt}
+use Rattle.paper.specs.Image.{states, behind, entriesAt, recordsAt, count, entryAt}
 use Rattle.paper.proofs.Sums.{sum-up}
 use Rattle.paper.proofs.Filled.{Filled, fill-more}
 use Rattle.image.specs.Laid.{Laid, Begins}
 
 module _ (b : List ℕ) (L : Laid b) where
   -- The records stand behind the labels.
-  pub records-before : recordsAt b ≡ 268 + 2 * states b
+  pub records-before : recordsAt b ≡ 268 + 2 * states b + 2 * behind b
   records-before = omega (arith, L .long)
 
   -- The entries stand behind the records.
@@ -51,7 +51,7 @@ module _ (b : List ℕ) (L : Laid b) (n records : ℕ) (n-is : n ≡ states b) (
       record {
         few-states = omega (arith, L .few-states);
         room = omega (arith, L .long);
-        short = omega (arith, L .long, L .few-states, L .few-entries);
+        short = omega (arith, L .long, L .few-states, L .few-entries, L .few-labels);
       }
 
   -- No place is filled at the start.

@@ -1,4 +1,4 @@
--- Judging an image in two parts: the grounds 1 to 10 first, and the others where none of these applies.
+-- Judging an image in two parts: the grounds 1 to 10 and 19 first, and the others where none of these applies.
 use mathlib.Core.Path.{_≡_, refl, sym, ap, _∙_}
 use mathlib.Core.Bool.{_||_}
 use mathlib.Core.List.{List, [], _∷_, _++_}
@@ -12,10 +12,10 @@ use Rattle.paper.specs.Operations.{judgeImage}
 use Rattle.paper.proofs.Refusals.{past, first-append}
 use Rattle.image.specs.Grounds.{firstGrounds, laterGrounds}
 
--- The image's grounds are the first ten and then the others.
+-- The image's grounds are the first twelve and then the others.
 pub grounds-split : (b : List ℕ) → imageGrounds b ≡ firstGrounds b ++ laterGrounds b
 unfolding firstGrounds laterGrounds
-grounds-split b = sym (take-append-drop 10 (imageGrounds b))
+grounds-split b = sym (take-append-drop 12 (imageGrounds b))
 
 -- The others are 11, 12 and 13.
 pub later-are : (b : List ℕ)
@@ -28,12 +28,12 @@ pub later-are : (b : List ℕ)
 unfolding imageGrounds viewGrounds laterGrounds
 later-are b = refl
 
--- So the number is that of the first ten, or what the others give.
+-- So the number is that of the first twelve, or what the others give.
 judge-split : (b : List ℕ) → judgeImage b ≡ past (first (firstGrounds b)) (first (laterGrounds b))
 unfolding judgeImage firstGrounds imageGrounds viewGrounds
 judge-split b = ap first (grounds-split b) ∙ first-append (firstGrounds b) (laterGrounds b) refl
 
--- A refusal on the first ten is the image's.
+-- A refusal on the first twelve is the image's.
 pub judged-first : (b : List ℕ) (r : ℕ) → r ≡ first (firstGrounds b) → ¬ (r ≡ 0) → r ≡ judgeImage b
 judged-first b r e n = sym (judge-split b ∙ rw (← e) (refusal r n))
   where
@@ -41,6 +41,6 @@ judged-first b r e n = sym (judge-split b ∙ rw (← e) (refusal r n))
     refusal zero n = absurd (n refl)
     refusal (suc r) n = refl
 
--- Where none of the first ten applies the others decide.
+-- Where none of the first twelve applies the others decide.
 pub judged-later : (b : List ℕ) → first (firstGrounds b) ≡ 0 → judgeImage b ≡ first (laterGrounds b)
 judged-later b e = judge-split b ∙ rw e

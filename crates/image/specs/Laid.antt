@@ -5,14 +5,15 @@ use Prim.Native.Nat.{ℕ, suc, _+_, _*_, _/_, _≤_, _<_}
 use lib.ListN.{length, getD}
 use Rattle.paper.specs.Below.{sum}
 use Rattle.paper.specs.Words.{number16}
-use Rattle.paper.specs.Image.{states, classes, entries, recordsAt, count, entryAt, imageLength}
+use Rattle.paper.specs.Image.{states, classes, entries, behind, recordsAt, count, entryAt, imageLength}
 use Rattle.facts.proofs.ImageFacts.{AcceptedImage}
 
--- The image has the length that its counts give, and its records count its entries.
+-- The image has the length that its counts and labels give, and its records count its entries.
 pub record Laid (b : List ℕ) : Type 0 where
   pub few-states : states b ≤ 512
   pub few-entries : entries b ≤ 131072
-  pub long : length b ≡ imageLength (states b) (entries b)
+  pub few-labels : behind b ≤ 8192
+  pub long : length b ≡ imageLength (states b) (entries b) (behind b)
   pub counted : sum (states b) (count b) ≡ entries b
 
 -- The list says where each state's entries begin, and where the last end.

@@ -1,4 +1,4 @@
--- What is known of an image to which none of the first ten grounds applies.
+-- What is known of an image to which none of the first twelve grounds applies.
 use mathlib.Core.Path.{_≡_}
 use mathlib.Core.List.{List}
 use mathlib.Core.Option.{none}
@@ -8,7 +8,7 @@ use Rattle.paper.proofs.Chain.{Inside}
 use Rattle.facts.proofs.TableFacts.{Classed}
 use Rattle.image.specs.Laid.{Laid}
 
--- An image of n states, k classes and m entries has passed the grounds 1 to 10.
+-- An image of n states, k classes and m entries has passed the grounds 1 to 10 and 19.
 pub record Passed (b : List ℕ) (n k m : ℕ) : Type 0 where
   pub states-are : n ≡ states b
   pub classes-are : k ≡ classes b

@@ -1,6 +1,5 @@
 // Two trees of a forest joined by a pair of states.
-ghost use mathlib.Core.Path.{_≡_};
-ghost use Prim.Native.Nat.{_+_, _≤_, _<_, max};
+ghost use Prim.Native.Nat.{_+_, _≤_, _<_};
 ghost use lib.ListN.{getD};
 ghost use Rattle.joining.specs.Filled.{Replaced};
 ghost use Rattle.joining.specs.Rooted.{Low, Climbed, Turned};
@@ -53,20 +52,13 @@ fn steps_to(parent: &[u16; 512], x: usize, r: usize, most: u16) -> u16
     k
 }
 
-// The larger of two numbers.
-pub fn larger(a: u16, b: u16) -> u16
-    ensures { λ r. ⌜ r ≡ max a b ⌝ }
-{
-    if a < b { b } else { a }
-}
-
 // The larger of x's old distance and the way from x over the root r to a state `past` steps behind it.
 fn farther(parent: &[u16; 512], old: u16, x: usize, r: usize, most: u16, past: u16) -> u16
     requires { ⌜ (x < 512) × Low (now parent) × (most + past < 65535) ⌝ }
     ensures { λ s. ⌜ Farther (now (parent .entry)) old x r most past s ⌝ }
 {
     let steps = steps_to(parent, x, r, most);
-    larger(old, steps + 1 + past)
+    words::larger(old, steps + 1 + past)
 }
 
 // The longest distance renewed for every state of both trees, with the old ones of u and v.

@@ -6,6 +6,7 @@ ghost use lib.ListN.{length, take};
 ghost use Rattle.paper.specs.Below.{differ, outside};
 ghost use Rattle.paper.specs.Words.{words, checkWord};
 ghost use Rattle.paper.specs.Refusals.{first};
+ghost use Rattle.paper.specs.Labels.{editionOf, labelsBehind};
 ghost use Rattle.paper.specs.Image.{distanceBack, wholeLength, check, imageLength};
 ghost use Rattle.paper.specs.Promises.{JudgesImage};
 ghost use Rattle.image.specs.Grounds.{firstGrounds};
@@ -26,12 +27,16 @@ fn counts_bad(n: usize, k: usize, m: usize) -> bool
     n * k < m
 }
 
-// The length that the counts give.
-fn image_length(n: usize, m: usize) -> usize
+// Ground 3: the length is not the one that n, m and the labels give. An input that ends inside the counts of labels is shorter.
+fn length_bad(b: &[u8], n: usize, m: usize, word: u16) -> bool
     requires { ⌜ (n ≤ 512) × (m ≤ 131072) ⌝ }
-    ensures { λ r. ⌜ r ≡ imageLength n m ⌝ }
+    ensures { λ r. ⌜ r ≡ differ (length (now (b .entry))) (imageLength n m (labelsBehind (now (b .entry)) 268 n (editionOf word))) ⌝ }
 {
-    280 + 6 * n + 4 * m
+    if b.len() < 268 + 2 * n {
+        return true;
+    }
+    let behind = labels::behind(b, 268, n, word);
+    b.len() != 280 + 6 * n + 2 * behind + 4 * m
 }
 
 // Ground 4: the trailer's whole length or distance back is wrong.
@@ -54,21 +59,25 @@ fn check_bad(b: &[u8]) -> bool
     words::get16(b, end) != words::check_word(&b[0..end])
 }
 
-// Judges an image on its first grounds: 0, or the number of the first of the grounds 1 to 10 that applies.
+// Judges an image on its first grounds: 0, or the number of the first of the grounds 1 to 10 and 19 that applies.
 pub fn first_grounds(b: &[u8]) -> u32
     ensures { λ r. ⌜ r ≡ first (firstGrounds (now (b .entry))) ⌝ }
 {
     if b.len() < 24 {
         return 1;
     }
-    let n = words::get16(b, 0) as usize;
+    let word = words::get16(b, 0);
+    let n = labels::states_of(word);
     let k = words::get16(b, 2) as usize;
     let start = words::get16(b, 4) as usize;
     let m = words::get32(b, 8) as usize;
     if counts_bad(n, k, m) {
         return 2;
     }
-    if b.len() != image_length(n, m) {
+    if labels::counts_bad(b, 268, n, word) {
+        return 19;
+    }
+    if length_bad(b, n, m, word) {
         return 3;
     }
     if trailer_bad(b, m) {
@@ -83,6 +92,9 @@ pub fn first_grounds(b: &[u8]) -> u32
     if table::classes_bad(b, 12, k) {
         return 7;
     }
+    if labels::labels_bad(b, 268, n, word) {
+        return 19;
+    }
     if in_records::records_bad(b, n, k, m) {
         return 8;
     }
@@ -96,7 +108,7 @@ pub fn first_grounds(b: &[u8]) -> u32
     0
 }
 
-// Judges an image: 0, or the number of the first ground, in the order 1 to 13, that applies.
+// Judges an image: 0, or the number of the first ground, in the order 1, 2, 19, 3 to 7, 19, 8 to 13, that applies.
 pub fn judge_image(b: &[u8]) -> u32
     ensures { λ r. ⌜ JudgesImage (now (b .entry)) r ⌝ }
 {
@@ -104,7 +116,8 @@ pub fn judge_image(b: &[u8]) -> u32
     if number != 0 {
         return number;
     }
-    let n = words::get16(b, 0) as usize;
+    let word = words::get16(b, 0);
+    let n = labels::states_of(word);
     let k = words::get16(b, 2) as usize;
     let m = words::get32(b, 8) as usize;
     sweep::last_grounds(b, n, k, m)

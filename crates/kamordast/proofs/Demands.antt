@@ -3,16 +3,18 @@
 use mathlib.Core.Path.{_≡_}
 use mathlib.Core.Logic.{_↔_}
 use mathlib.Core.Bool.{true}
-use mathlib.Core.List.{List, [], _∷_}
+use mathlib.Core.List.{List, [], _∷_, _++_}
 use mathlib.Core.Option.{none, some}
 use Prim.Native.Nat.{ℕ, _+_, _-_, _*_, _/_, _≤_, _<_}
 use lib.ListN.{length, take}
 use Rattle.paper.specs.Below.{sum, howMany, given}
 use Rattle.paper.specs.Words.{byteAt, Bytes}
-use Rattle.paper.specs.Table.{states, classes, start}
+use Rattle.paper.specs.Refusals.{Ground, first}
+use Rattle.paper.specs.Labels.{two}
+use Rattle.paper.specs.Table.{edition, states, classes, start}
 use Rattle.paper.specs.View.{stored, steps, look}
 use Rattle.paper.specs.Image as image
-use Rattle.paper.specs.Image.{imageView}
+use Rattle.paper.specs.Image.{imageView, firstLoaderGrounds}
 use Rattle.paper.specs.Results.{defaultsOf, tableOf}
 use Rattle.paper.specs.Forest.{Trees, longest, weight, singles, neighbours, weightsOf, rest, forest}
 use Rattle.paper.specs.Levels.{levels}
@@ -36,6 +38,7 @@ use Rattle.paper.proofs.Refused as refusing
 use Rattle.facts.proofs.TableFacts.{accepted-table}
 use Rattle.facts.proofs.ImageFacts.{accepted-image}
 use Rattle.facts.proofs.Finds as finds
+use Rattle.facts.proofs.FirstLoader as loader
 use Rattle.damage.proofs.Damage as damage
 use Rattle.trees.proofs.TrueDistances as trees
 use Rattle.trees.proofs.Neighbours as around
@@ -43,6 +46,7 @@ use Rattle.trees.proofs.Best.{falling-joins, joins-falling}
 use Rattle.levels.proofs.Payloads as reached
 use Rattle.trips.proofs.ExpandsBack as expands
 use Rattle.trips.proofs.WritesBack as writes
+use Rattle.trips.proofs.EditionKept as editions
 use Rattle.scan.proofs.Hops as hops
 use Rattle.walk.proofs.Hopless as hopless
 use Rattle.nearing.proofs.Scan as nearing
@@ -120,6 +124,16 @@ expands-back = (expands.expand-write, expands.expand-compact)
 -- Expanding an accepted image and writing it again with its own defaults gives back that image.
 pub writes-back : (b room room′ : List ℕ) → Bytes b → expand b room .number ≡ 0 → length b ≤ length room′ → write (result (expand b room)) (defaultsOf b) room′ ≡ building 0 b room′
 writes-back = writes.write-expand-own
+
+-- A result keeps the edition of its input: the image that write or compact leaves that of the table, the table that expand leaves that of the image.
+pub edition-kept : ((t ds room : List ℕ) → Bytes t → write t ds room .number ≡ 0 → image.edition (result (write t ds room)) ≡ edition t)
+    × ((t : List ℕ) (order D : ℕ) (room : List ℕ) → Bytes t → compact t order D room .number ≡ 0 → image.edition (result (compact t order D room)) ≡ edition t)
+    × ((b room : List ℕ) → Bytes b → expand b room .number ≡ 0 → edition (result (expand b room)) ≡ image.edition b)
+edition-kept = (editions.write-keeps-edition, editions.compact-keeps-edition, editions.expand-keeps-edition)
+
+-- Any judge that begins with the first two grounds of the first edition, which takes the whole first word for n, refuses every accepted image of edition 2 with 2, whatever it tests afterwards.
+pub first-edition-refuses : (b : List ℕ) (others : List Ground) → judgeImage b ≡ 0 → image.edition b ≡ two → first (firstLoaderGrounds b ++ others) ≡ 2
+first-edition-refuses = loader.first-edition-refuses
 
 -- After every byte a scan is in the plain table's state and has reported exactly its matches, and it stops only before the first byte whose report has no room:
 -- for any accepted image and its table, and for what compact and write left of a table that they were handed.

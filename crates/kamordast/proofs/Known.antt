@@ -6,18 +6,19 @@ use Prim.Native.Nat.{ℕ, zero, suc}
 use native.Mathlib.Omega.{arith}
 use lib.Dec.{ltb}
 use borrow.Author.Tests.{ltb-true}
-use Rattle.paper.specs.Words.{byteAt, Bytes, number16, number32, bytes16, bytes32, _⊕_, checkWord}
-use Rattle.paper.specs.Table.{labels, next, tableGrounds}
+use Rattle.paper.specs.Words.{byteAt, Bytes, all16, number16, number32, bytes16, bytes32, _⊕_, checkWord}
+use Rattle.paper.specs.Labels.{two, labelCount, label, labelsFrom, labelsBehind}
+use Rattle.paper.specs.Table.{edition, labels, next, tableGrounds}
 use Rattle.paper.specs.View.{stored, depthOf, worstOf, viewGrounds}
 use Rattle.paper.specs.Image as image
 use Rattle.paper.specs.Image.{imageGrounds}
-use Rattle.paper.specs.Results.{labelBytes, recordBytes, entryBytes, front, trailer, parts, imageOfView, entriesOf, imageOf, tableFrom, tableOf}
+use Rattle.paper.specs.Results.{labelBytes, labelsHeld, recordBytes, entryBytes, front, trailer, parts, imageOfView, entriesOf, imageOf, tableFrom, tableOf}
 use Rattle.paper.specs.Forest.{weight, singles, endNear, joined, d, longest, joinedLongest, addedOrDropped, pairs, neighbours, isRoot, root, pointsTo, forest, towardRoot}
 use Rattle.paper.specs.FallBack.{levels, towardStart}
 use Rattle.paper.specs.Defaults.{defaults}
 use Rattle.paper.specs.Scan.{scanOf, walkOf}
 use Rattle.paper.specs.Operations.{judgeTable, judgeImage, Built, compacted, compactGrounds, compact, writeGrounds, write, expandGrounds, expand, scanGrounds, scan, walkGrounds, walk}
-use Rattle.paper.specs.Cases.{T, T2, three, aabbb, all16, room, Case, right, starred, requested}
+use Rattle.paper.specs.Cases.{T, T2, T-two, three, aabbb, room, Case, right, starred, requested}
 use Rattle.paper.proofs.Below.{and-true}
 use Rattle.paper.proofs.Cases.{pick-right, cases, requests}
 use Rattle.trips.proofs.ResultBytes.{image-of-bytes}
@@ -72,6 +73,14 @@ compact-two = heads (pick-right 4 starred (cases .0))
 pub compact-three : Accepts (compact three 0 2 (room 322)) 322
 compact-three = heads (cases .1 2)
 
+-- Table T in edition 2 compacted with D 2.
+pub compact-T-two : Accepts (compact T-two 0 2 (room 330)) 330
+compact-T-two = heads (pick-right 25 requested requests)
+
+pub edition-T-two : edition T-two ≡ two
+unfolding number16 bytes16
+edition-T-two = refl
+
 -- The defaults of T with 0, 1 and 2 to 3, and those of the table of three states with 2 to 1 and 1 to 0.
 abbrev pub toThree : List ℕ
 toThree = all16 (3 ∷ 3 ∷ 3 ∷ 65535 ∷ [])
@@ -109,10 +118,14 @@ walk-state = heads (behind (pick-right 21 requested requests)) .0
 abbrev pub aaaaa : List ℕ
 aaaaa = 97 ∷ 97 ∷ 97 ∷ 97 ∷ 97 ∷ []
 
--- Both tables, both lists and both payloads are of bytes.
+-- The tables, both lists and both payloads are of bytes.
 pub bytes-T : Bytes T
 unfolding bytes16 allBytes
 bytes-T = bytes-tested T refl
+
+pub bytes-T-two : Bytes T-two
+unfolding bytes16 allBytes
+bytes-T-two = bytes-tested T-two refl
 
 pub bytes-three : Bytes three
 unfolding bytes16 allBytes
@@ -142,7 +155,7 @@ more =
 
 -- They are right, by computation.
 more-right : right more ≡ true
-unfolding number16 number32 bytes16 bytes32 _⊕_ checkWord labels next tableGrounds stored depthOf worstOf viewGrounds image.labels image.default image.count image.entryAt imageGrounds labelBytes recordBytes entryBytes front trailer parts imageOfView entriesOf imageOf tableFrom tableOf weight singles endNear joined d longest joinedLongest addedOrDropped pairs neighbours isRoot root pointsTo forest towardRoot levels towardStart defaults scanOf judgeTable judgeImage compacted compactGrounds compact writeGrounds write expandGrounds expand scanGrounds scan walkOf walkGrounds walk
+unfolding number16 number32 bytes16 bytes32 _⊕_ checkWord labelCount label labelsFrom labelsBehind labels next tableGrounds stored depthOf worstOf viewGrounds image.labels image.default image.count image.entryAt imageGrounds labelBytes labelsHeld recordBytes entryBytes front trailer parts imageOfView entriesOf imageOf tableFrom tableOf weight singles endNear joined d longest joinedLongest addedOrDropped pairs neighbours isRoot root pointsTo forest towardRoot levels towardStart defaults scanOf judgeTable judgeImage compacted compactGrounds compact writeGrounds write expandGrounds expand scanGrounds scan walkOf walkGrounds walk
 more-right = refl
 
 -- The image of T is accepted and can be expanded.

@@ -1,14 +1,18 @@
 -- Kinds of wrong programs that the promises shut out by name. A program here is any function from what it can be handed to what it answers and leaves.
-use mathlib.Core.Path.{_≡_, sym, ap, _∙_, refl}
+use mathlib.Core.Path.{_≡_, sym, ap, ap₂, _∙_, refl}
 use mathlib.Core.List.{List, _∷_}
 use Prim.Native.Nat.{ℕ}
 use native.Mathlib.Omega.{arith}
-use lib.ListN.{length}
+use lib.ListN.{length, take}
 use Rattle.paper.specs.Words.{byteAt, Bytes}
-use Rattle.paper.specs.Operations.{Built, compact, write, expand, Scanned, scan, walk}
+use Rattle.paper.specs.Labels.{one}
+use Rattle.paper.specs.Image as image
+use Rattle.paper.specs.Operations.{Built, result, compact, write, expand, Scanned, scan, walk}
 use Rattle.paper.specs.Promises.{JudgesTable, JudgesImage, IsBuilt, IsScanned, Compacts, Writes, Expands, Scans, Walks}
-use Rattle.paper.specs.Handed.{ToJudge, ToCompact, ToWrite, ToExpand, ToScan, ToWalk}
-use Rattle.paper.specs.Cases.{T, T2, three, aabbb, room}
+use Rattle.paper.specs.Handed.{ToJudge, ToCompact, ToWrite, ToExpand, ToRun}
+use Rattle.paper.specs.Cases.{T, T2, T-two, three, aabbb, room}
+use Rattle.paper.proofs.Editions.{one≢two}
+use Rattle.trips.proofs.EditionKept.{compact-keeps-edition}
 use Rattle.kamordast.proofs.Known as known
 use Rattle.kamordast.proofs.Known.{Accepts, toThree, downwards, aaaaa}
 
@@ -56,6 +60,10 @@ module _ (p : ToCompact → Built) (keeps : (x : ToCompact) → Compacts (x .tab
   abbrev two-three : ToCompact
   two-three = record { table = three; order = 0; bound = 2; room = room 322; table-bytes = known.bytes-three; order-small = omega arith; bound-small = omega arith; room-bytes = known.bytes-room 322 }
 
+  -- Table T in edition 2 with D 2.
+  abbrev two-T-two : ToCompact
+  two-T-two = record { table = T-two; order = 0; bound = 2; room = room 330; table-bytes = known.bytes-T-two; order-small = omega arith; bound-small = omega arith; room-bytes = known.bytes-room 330 }
+
   -- It does not refuse everything.
   pub compact-refuses-all : ¬ ((x : ToCompact) → ¬ (p x .number ≡ 0))
   compact-refuses-all = refuses-all (λ x. x .room) compacting p keeps two-T (known.compact-two .0)
@@ -74,6 +82,13 @@ module _ (p : ToCompact → Built) (keeps : (x : ToCompact) → Compacts (x .tab
   pub compact-ignores-bound : ¬ ((x x′ : ToCompact) → x .table ≡ x′ .table → x .order ≡ x′ .order → p x .number ≡ 0 → p x′ .number ≡ 0 → p x .resultLength ≡ p x′ .resultLength)
   compact-ignores-bound wrong =
       two-lengths (λ x. x .room) compacting p keeps zero-T two-T 352 324 known.compact-zero known.compact-two (λ e. absurd (omega arith)) (wrong zero-T two-T refl refl)
+
+  -- It does not leave images of edition 1 only.
+  pub compact-loses-edition : ¬ ((x : ToCompact) → p x .number ≡ 0 → image.edition (result (p x)) ≡ one)
+  compact-loses-edition wrong =
+      let k = keeps two-T-two in
+      let e : image.edition (result (p two-T-two)) ≡ image.edition (result (compacting two-T-two)) = ap₂ (λ (l : ℕ) (r : List ℕ). image.edition (take l r)) (k .length-is) (k .room-is) in
+      one≢two (sym (wrong two-T-two (k .number-is ∙ known.compact-T-two .0)) ∙ e ∙ compact-keeps-edition T-two 0 2 (room 330) known.bytes-T-two (known.compact-T-two .0) ∙ known.edition-T-two)
 
 -- A program p that keeps the promise of write.
 module _ (p : ToWrite → Built) (keeps : (x : ToWrite) → Writes (x .table) (x .defaults) (x .room) (p x .number) (p x .resultLength) (p x .room)) where
@@ -120,109 +135,86 @@ module _ (p : ToExpand → Built) (keeps : (x : ToExpand) → Expands (x .image)
   pub expand-untouched : ¬ ((x : ToExpand) → p x .room ≡ x .room)
   expand-untouched = untouched (λ x. x .room) expanding p keeps image-T 4 (known.filled-rooms .2) (λ e. absurd (omega arith))
 
--- A program p that keeps the promise of an operation that runs a payload, on any inputs A.
-module _ {A : Type 0} (operation p : A → Scanned)
-    (keeps : (x : A) → IsScanned (operation x) (p x .number) (p x .taken) (p x .state) (p x .reports) (p x .hops) (p x .room)) where
-  -- It does not refuse everything, where the operation accepts something.
-  runs-nothing : (x : A) → operation x .number ≡ 0 → ¬ ((x : A) → ¬ (p x .number ≡ 0))
-  runs-nothing x e wrong = wrong x (keeps x .number-is ∙ e)
-
-  -- It does not always stop before the first byte, where the operation takes some.
-  takes-nothing : (x : A) (n : ℕ) → operation x .taken ≡ n → ¬ (n ≡ 0) → ¬ ((x : A) → p x .taken ≡ 0)
-  takes-nothing x n e z wrong = z (sym (keeps x .taken-is ∙ e) ∙ wrong x)
-
-  -- Two of its answers that the operation gives in two states are not in one.
-  two-states : (x x′ : A) (s s′ : ℕ) → operation x .state ≡ s → operation x′ .state ≡ s′ → ¬ (s ≡ s′) → ¬ (p x .state ≡ p x′ .state)
-  two-states x x′ s s′ e e′ z same = z (sym (keeps x .state-is ∙ e) ∙ same ∙ (keeps x′ .state-is ∙ e′))
-
--- A program p that keeps the promise of scan.
-module _ (p : ToScan → Scanned)
-    (keeps : (x : ToScan) → Scans (x .image) (x .state) (x .payload) (x .room) (p x .number) (p x .taken) (p x .state) (p x .reports) (p x .hops) (p x .room)) where
-  -- "aabbb" and "aaaaa" over the image of T with D 2.
-  abbrev scan-of : (payload : List ℕ) → Bytes payload → ToScan
-  scan-of payload P =
+-- A program p that keeps the promise of an operation that runs a payload, and rules on which the operation is known.
+module _ (operation : List ℕ → ℕ → List ℕ → List ℕ → Scanned) (rules : List ℕ) (rules-bytes : Bytes rules) (p : ToRun → Scanned)
+    (keeps : (x : ToRun) → IsScanned (operation (x .rules) (x .state) (x .payload) (x .room)) (p x .number) (p x .taken) (p x .state) (p x .reports) (p x .hops) (p x .room)) where
+  -- "aabbb" and "aaaaa" over the rules.
+  abbrev over : (payload : List ℕ) → Bytes payload → ToRun
+  over payload P =
       record {
-        image = T2;
+        rules = rules;
         state = 0;
         payload = payload;
         room = room 12;
-        image-bytes = known.bytes-T2;
+        rules-bytes = rules-bytes;
         state-small = omega arith;
         payload-bytes = P;
         room-bytes = known.bytes-room 12;
       }
 
-  abbrev over-aabbb : ToScan
-  over-aabbb = scan-of aabbb (known.bytes-payloads .0)
+  abbrev over-aabbb : ToRun
+  over-aabbb = over aabbb (known.bytes-payloads .0)
 
-  abbrev over-aaaaa : ToScan
-  over-aaaaa = scan-of aaaaa (known.bytes-payloads .1)
+  abbrev over-aaaaa : ToRun
+  over-aaaaa = over aaaaa (known.bytes-payloads .1)
 
-  -- Scan itself.
-  abbrev scanning : ToScan → Scanned
-  scanning x = scan (x .image) (x .state) (x .payload) (x .room)
+  -- It does not refuse everything, where the operation accepts "aabbb".
+  runs-nothing : operation rules 0 aabbb (room 12) .number ≡ 0 → ¬ ((x : ToRun) → ¬ (p x .number ≡ 0))
+  runs-nothing e wrong = wrong over-aabbb (keeps over-aabbb .number-is ∙ e)
 
+  -- It does not always stop before the first byte, where the operation takes five.
+  takes-nothing : operation rules 0 aabbb (room 12) .taken ≡ 5 → ¬ ((x : ToRun) → p x .taken ≡ 0)
+  takes-nothing e wrong = let q : _≡_ {A = ℕ} 5 0 = sym (keeps over-aabbb .taken-is ∙ e) ∙ wrong over-aabbb in absurd (omega arith)
+
+  -- It does not work the first byte and invent the others from their number alone, where the operation ends in two states.
+  invents-bytes : operation rules 0 aabbb (room 12) .state ≡ 0 → operation rules 0 aaaaa (room 12) .state ≡ 1 → (invented : List ℕ → ℕ → ℕ → ℕ → ℕ)
+      → ¬ ((x : ToRun) (byte : ℕ) (others : List ℕ) → x .payload ≡ byte ∷ others → p x .state ≡ invented (x .rules) (x .state) byte (length others))
+  invents-bytes e e′ invented wrong =
+      let q : _≡_ {A = ℕ} 0 1 =
+      sym (keeps over-aabbb .state-is ∙ e) ∙ wrong over-aabbb 97 _ refl
+      ∙ sym (wrong over-aaaaa 97 _ refl) ∙ (keeps over-aaaaa .state-is ∙ e′) in
+      absurd (omega arith)
+
+  -- It does not invent the hops from the number of bytes, where the operation takes two numbers of them.
+  invents-hops : operation rules 0 aabbb (room 12) .hops ≡ 2 → operation rules 0 aaaaa (room 12) .hops ≡ 4 → (invented : ℕ → ℕ) → ¬ ((x : ToRun) → p x .hops ≡ invented (length (x .payload)))
+  invents-hops e e′ invented wrong =
+      let q : _≡_ {A = ℕ} 2 4 =
+      sym (keeps over-aabbb .hops-is ∙ e) ∙ wrong over-aabbb
+      ∙ sym (wrong over-aaaaa) ∙ (keeps over-aaaaa .hops-is ∙ e′) in
+      absurd (omega arith)
+
+-- A program p that keeps the promise of scan, over the image of T with D 2.
+module _ (p : ToRun → Scanned)
+    (keeps : (x : ToRun) → Scans (x .rules) (x .state) (x .payload) (x .room) (p x .number) (p x .taken) (p x .state) (p x .reports) (p x .hops) (p x .room)) where
   -- It does not refuse everything.
-  pub scan-refuses-all : ¬ ((x : ToScan) → ¬ (p x .number ≡ 0))
-  scan-refuses-all = runs-nothing scanning p keeps over-aabbb (known.accepts-aabbb .0)
+  pub scan-refuses-all : ¬ ((x : ToRun) → ¬ (p x .number ≡ 0))
+  scan-refuses-all = runs-nothing scan T2 known.bytes-T2 p keeps (known.accepts-aabbb .0)
 
   -- It does not always stop before the first byte.
-  pub scan-takes-nothing : ¬ ((x : ToScan) → p x .taken ≡ 0)
-  scan-takes-nothing = takes-nothing scanning p keeps over-aabbb 5 (known.accepts-aabbb .1) (λ e. absurd (omega arith))
+  pub scan-takes-nothing : ¬ ((x : ToRun) → p x .taken ≡ 0)
+  scan-takes-nothing = takes-nothing scan T2 known.bytes-T2 p keeps (known.accepts-aabbb .1)
 
   -- It does not work the first byte and invent the others from their number alone.
   pub scan-invents-bytes : (invented : List ℕ → ℕ → ℕ → ℕ → ℕ)
-      → ¬ ((x : ToScan) (byte : ℕ) (others : List ℕ) → x .payload ≡ byte ∷ others → p x .state ≡ invented (x .image) (x .state) byte (length others))
-  scan-invents-bytes invented wrong =
-      two-states scanning p keeps over-aabbb over-aaaaa 0 1 known.state-aabbb (known.scan-aaaaa .0) (λ e. absurd (omega arith))
-      (wrong over-aabbb 97 _ refl ∙ sym (wrong over-aaaaa 97 _ refl))
+      → ¬ ((x : ToRun) (byte : ℕ) (others : List ℕ) → x .payload ≡ byte ∷ others → p x .state ≡ invented (x .rules) (x .state) byte (length others))
+  scan-invents-bytes = invents-bytes scan T2 known.bytes-T2 p keeps known.state-aabbb (known.scan-aaaaa .0)
 
   -- It does not invent the hops from the number of bytes.
-  pub scan-invents-hops : (invented : ℕ → ℕ) → ¬ ((x : ToScan) → p x .hops ≡ invented (length (x .payload)))
-  scan-invents-hops invented wrong =
-      let q : _≡_ {A = ℕ} 2 4 =
-      sym (keeps over-aabbb .hops-is ∙ known.hops-aabbb) ∙ wrong over-aabbb
-      ∙ sym (wrong over-aaaaa) ∙ (keeps over-aaaaa .hops-is ∙ known.scan-aaaaa .1) in
-      absurd (omega arith)
+  pub scan-invents-hops : (invented : ℕ → ℕ) → ¬ ((x : ToRun) → p x .hops ≡ invented (length (x .payload)))
+  scan-invents-hops = invents-hops scan T2 known.bytes-T2 p keeps known.hops-aabbb (known.scan-aaaaa .1)
 
--- A program p that keeps the promise of walk.
-module _ (p : ToWalk → Scanned)
-    (keeps : (x : ToWalk) → Walks (x .table) (x .state) (x .payload) (x .room) (p x .number) (p x .taken) (p x .state) (p x .reports) (p x .hops) (p x .room)) where
-  -- "aabbb" and "aaaaa" over T.
-  abbrev walk-of : (payload : List ℕ) → Bytes payload → ToWalk
-  walk-of payload P =
-      record {
-        table = T;
-        state = 0;
-        payload = payload;
-        room = room 12;
-        table-bytes = known.bytes-T;
-        state-small = omega arith;
-        payload-bytes = P;
-        room-bytes = known.bytes-room 12;
-      }
-
-  abbrev walk-aabbb : ToWalk
-  walk-aabbb = walk-of aabbb (known.bytes-payloads .0)
-
-  abbrev walk-aaaaa : ToWalk
-  walk-aaaaa = walk-of aaaaa (known.bytes-payloads .1)
-
-  -- Walk itself.
-  abbrev walking : ToWalk → Scanned
-  walking x = walk (x .table) (x .state) (x .payload) (x .room)
-
+-- A program p that keeps the promise of walk, over T.
+module _ (p : ToRun → Scanned)
+    (keeps : (x : ToRun) → Walks (x .rules) (x .state) (x .payload) (x .room) (p x .number) (p x .taken) (p x .state) (p x .reports) (p x .hops) (p x .room)) where
   -- It does not refuse everything.
-  pub walk-refuses-all : ¬ ((x : ToWalk) → ¬ (p x .number ≡ 0))
-  walk-refuses-all = runs-nothing walking p keeps walk-aabbb (known.walk-aabbb .0)
+  pub walk-refuses-all : ¬ ((x : ToRun) → ¬ (p x .number ≡ 0))
+  walk-refuses-all = runs-nothing walk T known.bytes-T p keeps (known.walk-aabbb .0)
 
   -- It does not always stop before the first byte.
-  pub walk-takes-nothing : ¬ ((x : ToWalk) → p x .taken ≡ 0)
-  walk-takes-nothing = takes-nothing walking p keeps walk-aabbb 5 (known.walk-aabbb .1) (λ e. absurd (omega arith))
+  pub walk-takes-nothing : ¬ ((x : ToRun) → p x .taken ≡ 0)
+  walk-takes-nothing = takes-nothing walk T known.bytes-T p keeps (known.walk-aabbb .1)
 
   -- It does not work the first byte and invent the others from their number alone.
   pub walk-invents-bytes : (invented : List ℕ → ℕ → ℕ → ℕ → ℕ)
-      → ¬ ((x : ToWalk) (byte : ℕ) (others : List ℕ) → x .payload ≡ byte ∷ others → p x .state ≡ invented (x .table) (x .state) byte (length others))
-  walk-invents-bytes invented wrong =
-      two-states walking p keeps walk-aabbb walk-aaaaa 0 1 known.walk-state known.walk-aaaaa (λ e. absurd (omega arith))
-      (wrong walk-aabbb 97 _ refl ∙ sym (wrong walk-aaaaa 97 _ refl))
+      → ¬ ((x : ToRun) (byte : ℕ) (others : List ℕ) → x .payload ≡ byte ∷ others → p x .state ≡ invented (x .rules) (x .state) byte (length others))
+  walk-invents-bytes = invents-bytes walk T known.bytes-T p keeps known.walk-state known.walk-aaaaa

@@ -1,5 +1,5 @@
 -- Laws of tests, largest numbers and first values over the numbers below n.
-use mathlib.Core.Path.{_≡_, refl, sym, ap₂, _∙_}
+use mathlib.Core.Path.{_≡_, refl, sym, ap, ap₂, _∙_}
 use mathlib.Core.Bool.{Bool, true, false, _&&_, _||_, or-true, true≢false}
 use mathlib.Core.Logic.{_⊎_, inl, inr}
 use mathlib.Core.List.{List, _++_}
@@ -7,8 +7,10 @@ use mathlib.Core.Option.{Option, none, some}
 use Prim.Native.Nat.{ℕ, zero, suc, _+_, _≤_, _<_, max}
 use native.Mathlib.Nat.{not-suc-le-zero}
 use native.Mathlib.Numerals.{add-one}
-use native.Mathlib.Decide.{ℕ-discrete, decLe}
+use native.Mathlib.Decide.{ℕ-discrete, decLe, decLt}
 use native.Mathlib.Omega.{arith}
+use lib.Dec.{leb}
+use borrow.Author.Tests.{le-leb, lt-leb}
 use Rattle.paper.specs.Below.{every, any, largest, each, firstOf, orElse, when}
 
 -- A test that cannot pass fails.
@@ -67,6 +69,20 @@ any-at n i p h l = bool-false (p i) (λ e. true≢false (sym (any-found n i p l 
 pub any-none : (n : ℕ) (p : ℕ → Bool) → ((i : ℕ) → i < n → p i ≡ false) → any n p ≡ false
 any-none zero p h = refl
 any-none (suc n) p h = rw (any-none n p (λ i hi. h i (omega arith)), h n (omega arith))
+
+-- A number that the larger of two is not below, one of them is not below.
+leb-max : (n a b : ℕ) → leb n (max a b) ≡ leb n b || leb n a
+leb-max n a b = go (decLt a n) (decLt b n)
+  where
+    go : Dec (a < n) → Dec (b < n) → leb n (max a b) ≡ leb n b || leb n a
+    go (yes p) (yes q) = rw (lt-leb n (max a b) (omega arith), lt-leb n a p, lt-leb n b q)
+    go (yes p) (no q) = rw (le-leb n (max a b) (omega arith), le-leb n b (omega arith))
+    go (no p) q = rw (le-leb n (max a b) (omega arith), le-leb n a (omega arith), or-true (leb n b))
+
+-- The largest is not below a number above 0 just where one of them is not.
+pub largest-any : (n : ℕ) → 0 < n → (j : ℕ) (f : ℕ → ℕ) → leb n (largest j f) ≡ any j (λ i. leb n (f i))
+largest-any n h zero f = lt-leb n 0 h
+largest-any n h (suc j) f = leb-max n (f j) (largest j f) ∙ ap (λ (o : Bool). o || leb n (f j)) (largest-any n h j f)
 
 -- The largest is not below any.
 pub largest-upper : (n i : ℕ) (f : ℕ → ℕ) → i < n → f i ≤ largest n f

@@ -36,7 +36,7 @@ number-building : (number : ℕ) (result room : List ℕ) → building number re
 number-building zero result room = refl
 number-building (suc r) result room = refl
 
-number-scanning : (number : ℕ) (r : Run) (room : List ℕ) → scanning number r room .number ≡ number
+pub number-scanning : (number : ℕ) (r : Run) (room : List ℕ) → scanning number r room .number ≡ number
 number-scanning zero r room = refl
 number-scanning (suc q) r room = refl
 

@@ -14,6 +14,7 @@ use Rattle.paper.specs.Image.{imageLength, imageView, imageGrounds}
 use Rattle.paper.specs.Sentences.{OutOf, ClassesWrong, imageSentences}
 use Rattle.paper.proofs.Tests.{holds-less, holds-not-below, holds-differ, holds-or, holds-out-of}
 use Rattle.paper.proofs.Sentences.{Says}
+use Rattle.paper.proofs.LabelSays.{holds-counts, holds-labels}
 use Rattle.paper.proofs.TableSays.{holds-classes}
 use Rattle.paper.proofs.ViewSays.{view-says}
 
@@ -49,21 +50,29 @@ image-says b =
             (holds-or (outside 1 256 k) (outside k (n * k) m) (holds-out-of 1 256 k) (holds-out-of k (n * k) m)),
         λ not-2. (
           refl,
-          holds-differ (length b) (imageLength n m),
+          holds-counts b 268 n (image.edition b),
           λ _. (
             refl,
-            holds-or (differ (image.wholeLength b) (length b)) (differ (image.distanceBack b) (4 * m + 12))
-                (holds-differ (image.wholeLength b) (length b)) (holds-differ (image.distanceBack b) (4 * m + 12)),
+            holds-differ (length b) (imageLength n m (image.behind b)),
             λ _. (
               refl,
-              holds-differ (image.check b) sum,
+              holds-or (differ (image.wholeLength b) (length b)) (differ (image.distanceBack b) (4 * m + 12))
+                  (holds-differ (image.wholeLength b) (length b)) (holds-differ (image.distanceBack b) (4 * m + 12)),
               λ _. (
                 refl,
-                holds-not-below (image.start b) n,
+                holds-differ (image.check b) sum,
                 λ _. (
                   refl,
-                  holds-classes k (image.classOf b),
-                  λ not-7. view-says (imageView b) (image.classOf b) m (image.depth b) (image.worst b) (some-states n (λ w. not-2 (inl w))) (all-classed k (image.classOf b) not-7),
+                  holds-not-below (image.start b) n,
+                  λ _. (
+                    refl,
+                    holds-classes k (image.classOf b),
+                    λ not-7. (
+                      refl,
+                      holds-labels b 268 n (image.edition b),
+                      λ _. view-says (imageView b) (image.classOf b) m (image.depth b) (image.worst b) (some-states n (λ w. not-2 (inl w))) (all-classed k (image.classOf b) not-7),
+                    ),
+                  ),
                 ),
               ),
             ),

@@ -1,6 +1,8 @@
 pub mod Below
 pub mod Tests
 pub mod Sums
+pub mod Lists
+pub mod Editions
 pub mod Counts
 pub mod Rising
 pub mod Filled
@@ -12,8 +14,9 @@ pub mod Entries
 pub mod Stated
 pub mod Refusals
 pub mod Sentences
-pub mod TableSays
 pub mod ViewSays
+pub mod LabelSays
+pub mod TableSays
 pub mod ImageSays
 pub mod Exact
 pub mod Refused
@@ -26,5 +29,8 @@ pub mod Levels
 pub mod Orders
 pub mod Walk
 pub mod Words
+pub mod Labels
+pub mod LabelsMoved
+pub mod LabelParts
 pub mod Cases
 pub mod Twelve

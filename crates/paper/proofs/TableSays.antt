@@ -12,6 +12,7 @@ use Rattle.paper.specs.Table.{tableLength, classesBad, tableGrounds}
 use Rattle.paper.specs.Sentences.{Some, ClassesWrong, tableSentences}
 use Rattle.paper.proofs.Tests.{Holds, holds-less, holds-not-below, holds-equal, holds-differ, holds-not, holds-or, holds-some, holds-out-of}
 use Rattle.paper.proofs.Sentences.{Says}
+use Rattle.paper.proofs.LabelSays.{holds-counts, holds-labels}
 
 -- Classes of so many bytes.
 classes-among : (bytes k : ℕ) (classOf : ℕ → ℕ)
@@ -41,18 +42,26 @@ table-says t =
         holds-or (outside 1 512 n) (outside 1 256 k) (holds-out-of 1 512 n) (holds-out-of 1 256 k),
         λ _. (
           refl,
-          holds-differ (length t) (tableLength n k),
+          holds-counts t 262 n (table.edition t),
           λ _. (
             refl,
-            holds-not-below (table.start t) n,
+            holds-differ (length t) (tableLength n k (table.behind t)),
             λ _. (
               refl,
-              holds-classes k (table.classOf t),
+              holds-not-below (table.start t) n,
               λ _. (
                 refl,
-                holds-some n (λ s. any k (λ c. leb n (table.next t s c))) (λ s. Some k (λ c. ¬ (table.next t s c < n)))
-                    (λ s hs. holds-some k (λ c. leb n (table.next t s c)) (λ c. ¬ (table.next t s c < n)) (λ c hc. holds-not-below (table.next t s c) n)),
-                λ _. tt,
+                holds-classes k (table.classOf t),
+                λ _. (
+                  refl,
+                  holds-labels t 262 n (table.edition t),
+                  λ _. (
+                    refl,
+                    holds-some n (λ s. any k (λ c. leb n (table.next t s c))) (λ s. Some k (λ c. ¬ (table.next t s c < n)))
+                        (λ s hs. holds-some k (λ c. leb n (table.next t s c)) (λ c. ¬ (table.next t s c < n)) (λ c hc. holds-not-below (table.next t s c) n)),
+                    λ _. tt,
+                  ),
+                ),
               ),
             ),
           ),

@@ -24,6 +24,10 @@ passes false n = absurd (n refl)
 pub holds-less : (a b : ℕ) → Holds (ltb a b) (a < b)
 holds-less a b = (ltb-true a b, lt-ltb a b)
 
+-- Up to.
+pub holds-up-to : (a b : ℕ) → Holds (leb a b) (a ≤ b)
+holds-up-to a b = (leb-true a b, le-leb a b)
+
 -- Not below.
 pub holds-not-below : (a b : ℕ) → Holds (leb b a) (¬ (a < b))
 holds-not-below a b = (λ e h. absurd (omega (arith, leb-true b a e)), λ h. le-leb b a (omega (arith, h)))

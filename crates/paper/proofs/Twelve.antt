@@ -4,17 +4,18 @@ use mathlib.Core.Bool.{true, _&&_}
 use mathlib.Core.List.{List, [], _∷_, _++_}
 use Prim.Native.Nat.{ℕ}
 use lib.ListN.{replicate, take}
-use Rattle.paper.specs.Words.{number16, number32, bytes16, bytes32, _⊕_, checkWord}
+use Rattle.paper.specs.Words.{number16, number32, bytes16, all16, bytes32, _⊕_, checkWord}
+use Rattle.paper.specs.Labels.{labelCount, label, labelsFrom, labelsBehind}
 use Rattle.paper.specs.Table.{labels, next, tableGrounds}
 use Rattle.paper.specs.View.{stored, depthOf, worstOf, viewGrounds}
 use Rattle.paper.specs.Image as image
 use Rattle.paper.specs.Image.{check, imageGrounds}
-use Rattle.paper.specs.Results.{labelBytes, recordBytes, entryBytes, front, trailer, parts, imageOfView, entriesOf, imageOf, tableOf}
+use Rattle.paper.specs.Results.{labelBytes, labelsHeld, recordBytes, entryBytes, front, trailer, parts, imageOfView, entriesOf, imageOf, tableOf}
 use Rattle.paper.specs.Forest.{weight, singles, endNear, joined, d, longest, joinedLongest, addedOrDropped, pairs, neighbours, isRoot, root, pointsTo, forest, towardRoot}
 use Rattle.paper.specs.FallBack.{levels, towardStart}
 use Rattle.paper.specs.Defaults.{defaults}
 use Rattle.paper.specs.Operations.{Built, compacted, compactGrounds, compact}
-use Rattle.paper.specs.Cases.{all16, built, room, same}
+use Rattle.paper.specs.Cases.{built, room, same}
 
 -- Twelve states and four classes: 'a' is class 1, 'b' class 2, 'c' class 3, every other byte 0; every third state has a label.
 abbrev twelve : List ℕ
@@ -35,5 +36,5 @@ pub twelve-compacts : same (checked (compact twelve 0 1 (room 480)))
     (63602 ∷ 0 ∷ 480 ∷ 32 ∷ 1 ∷ 1 ∷ 65535 ∷ 65535 ∷ 65535 ∷ 65535 ∷ 1 ∷ 65535 ∷ 5 ∷ 65535 ∷ 7 ∷ 65535 ∷ 0 ∷ 9 ∷ [])
     && same (checked (compact twelve 0 3 (room 408)))
     (63866 ∷ 0 ∷ 408 ∷ 14 ∷ 2 ∷ 2 ∷ 1 ∷ 65535 ∷ 1 ∷ 7 ∷ 1 ∷ 1 ∷ 1 ∷ 1 ∷ 1 ∷ 1 ∷ 1 ∷ 1 ∷ []) ≡ true
-unfolding number16 number32 bytes16 bytes32 _⊕_ checkWord labels next tableGrounds stored depthOf worstOf viewGrounds image.labels image.default image.count image.entryAt imageGrounds labelBytes recordBytes entryBytes front trailer parts imageOfView entriesOf imageOf tableOf weight singles endNear joined d longest joinedLongest addedOrDropped pairs neighbours isRoot root pointsTo forest towardRoot levels towardStart defaults compacted compactGrounds compact
+unfolding number16 number32 bytes16 bytes32 _⊕_ checkWord labelCount label labelsFrom labelsBehind labels next tableGrounds stored depthOf worstOf viewGrounds image.labels image.default image.count image.entryAt imageGrounds labelBytes labelsHeld recordBytes entryBytes front trailer parts imageOfView entriesOf imageOf tableOf weight singles endNear joined d longest joinedLongest addedOrDropped pairs neighbours isRoot root pointsTo forest towardRoot levels towardStart defaults compacted compactGrounds compact
 twelve-compacts = refl

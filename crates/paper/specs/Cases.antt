@@ -3,23 +3,19 @@ use mathlib.Core.Bool.{Bool, true, false, _&&_}
 use mathlib.Core.List.{List, [], _∷_, _++_, map}
 use Prim.Native.Nat.{ℕ}
 use lib.Dec.{eqb}
-use lib.ListN.{length, replicate, take}
+use lib.ListN.{length, replicate, take, drop}
 use Rattle.paper.specs.Below.{sum, list, or}
-use Rattle.paper.specs.Words.{bytes16, bytes32, checkWord}
+use Rattle.paper.specs.Words.{bytes16, all16, bytes32, checkWord}
+use Rattle.paper.specs.Refusals.{first}
 use Rattle.paper.specs.Table.{states}
 use Rattle.paper.specs.View.{Found, look}
 use Rattle.paper.specs.Image as image
-use Rattle.paper.specs.Image.{entries, depth, worst, imageView}
+use Rattle.paper.specs.Image.{entries, depth, worst, imageView, firstLoaderGrounds}
 use Rattle.paper.specs.Results.{defaultNumber, imageOf}
 use Rattle.paper.specs.Forest.{Trees, weight, singles, joined, root, lean, forest}
 use Rattle.paper.specs.FallBack.{level}
-use Rattle.paper.specs.Operations.{judgeTable, Built, compacted, compact, listed, write, Scanned, scan, walk}
+use Rattle.paper.specs.Operations.{judgeTable, judgeImage, Built, compacted, compact, listed, write, expand, Scanned, scan, walk}
 use Rattle.paper.specs.Programs.{boundsText, servedText}
-
--- Numbers of 16 bits, one after the other.
-abbrev pub all16 : List ℕ → List ℕ
-all16 [] = []
-all16 (w ∷ ws) = bytes16 w ++ all16 ws
 
 -- The classes of the bytes where 'a' is class x, 'b' class y and every other byte 0.
 abbrev pub classesOf : ℕ → ℕ → List ℕ
@@ -132,6 +128,18 @@ linesOfT =
     ∷ 51 ∷ 32 ∷ 49 ∷ 32 ∷ 49 ∷ 32 ∷ 53 ∷ 32 ∷ 51 ∷ 32 ∷ 51 ∷ 50 ∷ 52 ∷ 10
     ∷ []
 
+-- Table T in edition 2, with these counts of labels and these labels behind them.
+abbrev pub labelled : List ℕ → List ℕ → List ℕ
+labelled counts ls = all16 (32772 ∷ 3 ∷ 0 ∷ []) ++ classesOf 1 2 ++ all16 counts ++ all16 ls ++ drop 270 T
+
+-- With the labels 7 and 8 on state 2 and 9 on state 3.
+abbrev pub T-two : List ℕ
+T-two = labelled (0 ∷ 0 ∷ 2 ∷ 1 ∷ []) (7 ∷ 8 ∷ 9 ∷ [])
+
+-- Its image with D 2.
+abbrev pub T2-two : List ℕ
+T2-two = compacted T-two 0 2
+
 -- The starred cases in the paper's order; 65535 is no default, and a room is 255 where it is not written.
 abbrev pub starred : List Case
 starred =
@@ -178,4 +186,14 @@ requested =
     ∷ (scanned (walk T 0 aabbb (room 12)), 0 ∷ 5 ∷ 0 ∷ 2 ∷ 0 ∷ (bytes32 2 ++ bytes16 7 ++ bytes32 3 ++ bytes16 9))
     ∷ (scanned (walk T 0 aabbb (room 6)), 0 ∷ 3 ∷ 2 ∷ 1 ∷ 0 ∷ (bytes32 2 ++ bytes16 7))
     ∷ (walk T 4 aabbb [] .number ∷ [], 14 ∷ [])
+    ∷ (length T-two ∷ judgeTable T-two ∷ judgeImage T2-two ∷ first (firstLoaderGrounds T2-two) ∷ [], 300 ∷ 0 ∷ 0 ∷ 2 ∷ [])
+    ∷ (built (compact T-two 0 2 (room 330)), 0 ∷ 330 ∷ 5 ∷ 1 ∷ 1 ∷ 65535 ∷ 0 ∷ 0 ∷ 0 ∷ [])
+    ∷ (expand T2-two (room 300) .room, T-two)
+    ∷ (scanned (scan T2-two 0 aabbb (room 18)), 0 ∷ 5 ∷ 0 ∷ 3 ∷ 2 ∷ (bytes32 2 ++ bytes16 7 ++ bytes32 2 ++ bytes16 8 ++ bytes32 3 ++ bytes16 9))
+    ∷ (scanned (scan T2-two 0 aabbb (room 12)), 0 ∷ 3 ∷ 2 ∷ 2 ∷ 1 ∷ (bytes32 2 ++ bytes16 7 ++ bytes32 2 ++ bytes16 8))
+    ∷ (scanned (scan T2-two 0 aabbb (room 6)), 0 ∷ 2 ∷ 1 ∷ 0 ∷ 1 ∷ room 6)
+    ∷ (map (λ b. judgeTable b) (labelled (17 ∷ 0 ∷ 0 ∷ 0 ∷ []) [] ∷ take 269 (labelled (17 ∷ 0 ∷ 0 ∷ 0 ∷ []) []) ∷ take 270 (labelled (17 ∷ 0 ∷ 0 ∷ 0 ∷ []) []) ∷ []), 19 ∷ 3 ∷ 19 ∷ [])
+    ∷ (map (λ ls. judgeTable (labelled (2 ∷ 0 ∷ 0 ∷ 1 ∷ []) ls)) ((7 ∷ 7 ∷ 9 ∷ []) ∷ (7 ∷ 8 ∷ 0 ∷ []) ∷ (7 ∷ 8 ∷ 7 ∷ []) ∷ []), 19 ∷ 19 ∷ 0 ∷ [])
+    ∷ (scanned (walk T-two 0 aabbb (room 12)), 0 ∷ 3 ∷ 2 ∷ 2 ∷ 0 ∷ (bytes32 2 ++ bytes16 7 ++ bytes32 2 ++ bytes16 8))
+    ∷ (servedText (T2-two ++ aabbb), servedText (T2 ++ aabbb))
     ∷ []

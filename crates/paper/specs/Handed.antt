@@ -35,24 +35,13 @@ pub record ToExpand : Type 0 where
   pub image-bytes : Bytes image
   pub room-bytes : Bytes room
 
--- To scan: an image, a state of 32 bits, a payload and a room.
-pub record ToScan : Type 0 where
-  pub image : List ℕ
+-- To scan or to walk: rules, which are an image or a table, a state of 32 bits, a payload and a room.
+pub record ToRun : Type 0 where
+  pub rules : List ℕ
   pub state : ℕ
   pub payload : List ℕ
   pub room : List ℕ
-  pub image-bytes : Bytes image
-  pub state-small : state < 4294967296
-  pub payload-bytes : Bytes payload
-  pub room-bytes : Bytes room
-
--- To walk: a table, a state of 32 bits, a payload and a room.
-pub record ToWalk : Type 0 where
-  pub table : List ℕ
-  pub state : ℕ
-  pub payload : List ℕ
-  pub room : List ℕ
-  pub table-bytes : Bytes table
+  pub rules-bytes : Bytes rules
   pub state-small : state < 4294967296
   pub payload-bytes : Bytes payload
   pub room-bytes : Bytes room

@@ -1,6 +1,7 @@
 pub mod Below
 pub mod Words
 pub mod Refusals
+pub mod Labels
 pub mod Table
 pub mod View
 pub mod Image

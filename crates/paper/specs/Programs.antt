@@ -6,7 +6,7 @@ use lib.Dec.{ltb, eqb}
 use lib.ListN.{length, take, drop}
 use Rattle.paper.specs.Below.{howMany, bit, each, given}
 use Rattle.paper.specs.View.{Found, look}
-use Rattle.paper.specs.Image.{states, start, depth, entries, classOf, default, imageView, worst, imageLength}
+use Rattle.paper.specs.Image.{states, start, depth, entries, classOf, behind, default, imageView, worst, imageLength}
 use Rattle.paper.specs.Operations.{judgeTable, judgeImage, compacted}
 use Rattle.paper.specs.Text.{line, linesOr, tooLongLine}
 
@@ -56,7 +56,7 @@ servedLines b payload =
 
 -- Where the image ends in an input that begins with one: the length that its counts give.
 abbrev pub imageEnd : List ℕ → ℕ
-imageEnd input = imageLength (states input) (entries input)
+imageEnd input = imageLength (states input) (entries input) (behind input)
 
 -- What the program `served` prints of an input, an image and then a payload; an input that ends before the image does is judged as it stands.
 unfoldable pub servedText : List ℕ → List ℕ

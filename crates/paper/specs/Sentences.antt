@@ -7,6 +7,7 @@ use Prim.Native.Nat.{ℕ, suc, _+_, _-_, _*_, _≤_, _<_}
 use lib.ListN.{length, take}
 use Rattle.paper.specs.Below.{sum}
 use Rattle.paper.specs.Words.{words, checkWord}
+use Rattle.paper.specs.Labels.{Edition, two, labelCount, label}
 use Rattle.paper.specs.Table as table
 use Rattle.paper.specs.Table.{tableLength}
 use Rattle.paper.specs.View.{View, stored, steps}
@@ -36,16 +37,31 @@ OutOf a b x = (x < a) ⊎ (b < x)
 abbrev pub ClassesWrong : ℕ → (ℕ → ℕ) → Type 0
 ClassesWrong k classOf = Some 256 (λ x. ¬ (classOf x < k)) ⊎ Some k (λ c. ¬ Some 256 (λ x. classOf x ≡ c))
 
--- Tables: 1, 2, 3, 6, 7, 10.
+module _ (b : List ℕ) (place n : ℕ) (e : Edition) where
+  -- In edition 2 a count of labels is above 16, and the input does not end inside the counts.
+  abbrev pub CountsWrong : Type 0
+  CountsWrong = (e ≡ two) × (place + 2 * n ≤ length b) × Some n (λ s. 16 < labelCount b place s)
+
+  -- A label is zero, or not above the one before in its state.
+  abbrev pub LabelWrong : ℕ → ℕ → Type 0
+  LabelWrong s j = (label b place n s j ≡ 0) ⊎ ((i : ℕ) × (j ≡ suc i) × (¬ (label b place n s i < label b place n s j)))
+
+  -- In edition 2 some label of some state is such.
+  abbrev pub LabelsWrong : Type 0
+  LabelsWrong = (e ≡ two) × Some n (λ s. Some (labelCount b place s) (LabelWrong s))
+
+-- Tables: 1, 2, 19 for the counts of labels, 3, 6, 7, 19 for the labels, 10.
 unfoldable pub tableSentences : List ℕ → List Sentence
 tableSentences t =
     let n = table.states t in
     let k = table.classes t in
     (1, length t < 6)
     ∷ (2, OutOf 1 512 n ⊎ OutOf 1 256 k)
-    ∷ (3, ¬ (length t ≡ tableLength n k))
+    ∷ (19, CountsWrong t 262 n (table.edition t))
+    ∷ (3, ¬ (length t ≡ tableLength n k (table.behind t)))
     ∷ (6, ¬ (table.start t < n))
     ∷ (7, ClassesWrong k (table.classOf t))
+    ∷ (19, LabelsWrong t 262 n (table.edition t))
     ∷ (10, Some n (λ s. Some k (λ c. ¬ (table.next t s c < n))))
     ∷ []
 
@@ -107,7 +123,7 @@ module _ (v : View) where
       ∷ (13, (¬ LongestChain depth) ⊎ (¬ LargestHops classOf worst))
       ∷ []
 
--- Images: 1 to 13.
+-- Images: 1, 2, 19 for the counts of labels, 3 to 7, 19 for the labels, 8 to 13.
 unfoldable pub imageSentences : List ℕ → List Sentence
 imageSentences b =
     let n = image.states b in
@@ -115,11 +131,13 @@ imageSentences b =
     let m = image.entries b in
     (1, length b < 24)
     ∷ (2, OutOf 1 512 n ⊎ (OutOf 1 256 k ⊎ OutOf k (n * k) m))
-    ∷ (3, ¬ (length b ≡ imageLength n m))
+    ∷ (19, CountsWrong b 268 n (image.edition b))
+    ∷ (3, ¬ (length b ≡ imageLength n m (image.behind b)))
     ∷ (4, (¬ (image.wholeLength b ≡ length b)) ⊎ (¬ (image.distanceBack b ≡ 4 * m + 12)))
     ∷ (5, ¬ (image.check b ≡ checkWord (words (take (length b - 2) b))))
     ∷ (6, ¬ (image.start b < n))
     ∷ (7, ClassesWrong k (image.classOf b))
+    ∷ (19, LabelsWrong b 268 n (image.edition b))
     ∷ viewSentences (imageView b) (image.classOf b) m (image.depth b) (image.worst b)
 
 -- Compact: 18 (an order above 3), the table's, 16.

@@ -21,7 +21,7 @@ pub record Going (R : Rules) (most state : ℕ) (payload room₀ room : List ℕ
   pub within : i ≤ length payload
   pub inside : s < R .states
   pub cheap : hops ≤ 512 * i
-  pub few : reports ≤ i
+  pub few : reports ≤ 16 * i
   pub fits : reports ≤ most
   pub long : length written ≡ 6 * reports
   pub room-is : room ≡ placed room₀ 0 written

@@ -3,7 +3,7 @@ pub mod Bytewise
 pub mod Prefix
 pub mod Rules
 pub mod Alike
-pub mod Label
+pub mod Report
 pub mod Going
 pub mod GoesOn
 pub mod Verdict

@@ -11,6 +11,7 @@ use Rattle.paper.specs.Refusals.{Ground, first}
 use Rattle.paper.specs.Scan.{Run}
 use Rattle.paper.specs.Operations.{runGrounds, Scanned, scanning}
 use Rattle.paper.specs.Promises.{IsScanned}
+use Rattle.paper.proofs.Exact.{number-scanning}
 use Rattle.paper.proofs.Refusals.{numbered, past, first-append}
 
 -- The five numbers of a refusal.
@@ -21,34 +22,48 @@ refusing : (v : ℕ) (r : Run) (room : List ℕ) → ¬ (v ≡ 0) → IsScanned 
 refusing zero r room n = absurd (n refl)
 refusing (suc v) r room n = record { number-is = refl; taken-is = refl; state-is = refl; reports-is = refl; hops-is = refl; room-is = refl }
 
--- The number of an outcome is the verdict.
-scanning-number : (v : ℕ) (r : Run) (room : List ℕ) → scanning v r room .number ≡ v
-scanning-number zero r room = refl
-scanning-number (suc v) r room = refl
-
-module _ (gs : List Ground) (ok : numbered gs ≡ true) (n s : ℕ) (payload : List ℕ) where
+module _ (n s : ℕ) (payload : List ℕ) where
   -- What the grounds 14 and 15 give.
-  abbrev later : ℕ
+  abbrev pub later : ℕ
   later = first (runGrounds n s payload)
 
+  -- The state is not below n.
+  pub later-state : n ≤ s → later ≡ 14
+  later-state h = rw (le-leb n s h)
+
+  -- It is, and the payload is over 65,536 bytes.
+  pub later-payload : s < n → 65536 < length payload → later ≡ 15
+  later-payload h l = rw (lt-leb n s h, lt-ltb 65536 (length payload) l)
+
+  -- Neither.
+  pub later-none : s < n → length payload ≤ 65536 → later ≡ 0
+  later-none h l = rw (lt-leb n s h, le-ltb 65536 (length payload) l)
+
+  -- They give 0 only so.
+  pub later-clear : later ≡ 0 → (s < n) × (length payload ≤ 65536)
+  later-clear e = passed (leb n s) refl (ltb 65536 (length payload)) refl e
+    where
+      passed : (p : Bool) → leb n s ≡ p → (q : Bool) → ltb 65536 (length payload) ≡ q → _≡_ {A = ℕ} (cond p 14 (cond q 15 0)) 0 → (s < n) × (length payload ≤ 65536)
+      passed false ep false eq z = (leb-false n s ep, ltb-false 65536 (length payload) eq)
+      passed false ep true eq z = absurd (omega arith)
+      passed true ep q eq z = absurd (omega arith)
+
+module _ (gs : List Ground) (ok : numbered gs ≡ true) (n s : ℕ) (payload : List ℕ) where
   -- The verdict is the judge's, or what they give.
-  verdict-past : first (gs ++ runGrounds n s payload) ≡ past (first gs) later
+  verdict-past : first (gs ++ runGrounds n s payload) ≡ past (first gs) (later n s payload)
   verdict-past = first-append gs (runGrounds n s payload) ok
 
   -- Where the judge accepts it is what they give.
-  pub verdict-judged : first gs ≡ 0 → first (gs ++ runGrounds n s payload) ≡ first (runGrounds n s payload)
+  pub verdict-judged : first gs ≡ 0 → first (gs ++ runGrounds n s payload) ≡ later n s payload
   verdict-judged e = verdict-past ∙ rw e
 
   -- It is 0 only where the judge accepts, the state is below n and the payload is not too long.
   pub verdict-clear : first (gs ++ runGrounds n s payload) ≡ 0 → (first gs ≡ 0) × (s < n) × (length payload ≤ 65536)
-  verdict-clear e = passed (first gs) (leb n s) refl (ltb 65536 (length payload)) refl (sym verdict-past ∙ e)
+  verdict-clear e = passed (first gs) (sym verdict-past ∙ e)
     where
-      passed : (v : ℕ) (p : Bool) → leb n s ≡ p → (q : Bool) → ltb 65536 (length payload) ≡ q → past v (cond p 14 (cond q 15 0)) ≡ 0
-          → (v ≡ 0) × (s < n) × (length payload ≤ 65536)
-      passed zero false ep false eq z = (refl, leb-false n s ep, ltb-false 65536 (length payload) eq)
-      passed zero false ep true eq z = absurd (omega arith)
-      passed zero true ep q eq z = absurd (omega arith)
-      passed (suc v) p ep q eq z = absurd (omega arith)
+      passed : (v : ℕ) → past v (later n s payload) ≡ 0 → (v ≡ 0) × (s < n) × (length payload ≤ 65536)
+      passed zero z = let (i, j) = later-clear n s payload z in (refl, i, j)
+      passed (suc v) z = absurd (omega arith)
 
   module _ (r : Run) (room : List ℕ) where
     -- What is answered and left.
@@ -64,30 +79,22 @@ module _ (gs : List Ground) (ok : numbered gs ≡ true) (n s : ℕ) (payload : L
     pub judge-refuses : (v number taken state reports hops : ℕ) → v ≡ first gs → ¬ (v ≡ 0) → Zeros v number taken state reports hops → IsScanned outcome number taken state reports hops room
     judge-refuses v number taken state reports hops e z = refused v number taken state reports hops (verdict-past ∙ rw (← e) (go v z)) z
       where
-        go : (v : ℕ) → ¬ (v ≡ 0) → past v later ≡ v
+        go : (v : ℕ) → ¬ (v ≡ 0) → past v (later n s payload) ≡ v
         go zero z = absurd (z refl)
         go (suc v) z = refl
 
     module _ (judged : first gs ≡ 0) where
-      -- The state is not below n.
-      pub state-refuses : (number taken state reports hops : ℕ) → n ≤ s → Zeros 14 number taken state reports hops → IsScanned outcome number taken state reports hops room
-      state-refuses number taken state reports hops h = refused 14 number taken state reports hops (verdict-past ∙ rw (judged, le-leb n s h)) (λ z. omega arith)
+      -- 14 or 15 applies.
+      pub later-refuses : (v number taken state reports hops : ℕ) → v ≡ later n s payload → ¬ (v ≡ 0) → Zeros v number taken state reports hops → IsScanned outcome number taken state reports hops room
+      later-refuses v number taken state reports hops e = refused v number taken state reports hops (verdict-judged judged ∙ sym e)
 
-      module _ (inside : s < n) where
-        -- The payload is over 65,536 bytes.
-        pub payload-refuses : (number taken state reports hops : ℕ) → 65536 < length payload → Zeros 15 number taken state reports hops → IsScanned outcome number taken state reports hops room
-        payload-refuses number taken state reports hops h =
-            refused 15 number taken state reports hops (verdict-past ∙ rw (judged, lt-leb n s inside, lt-ltb 65536 (length payload) h)) (λ z. omega arith)
-
-        -- No ground applies: the scan's four numbers are answered, and its reports left in the room.
-        pub outcome-done : length payload ≤ 65536 → outcome ≡ scanning 0 r room
-        outcome-done h =
-            let none : first (gs ++ runGrounds n s payload) ≡ 0 = verdict-past ∙ rw (judged, lt-leb n s inside, le-ltb 65536 (length payload) h) in
-            ap (λ (v : ℕ). scanning v r room) none
+      -- No ground applies: the scan's four numbers are answered, and its reports left in the room.
+      pub outcome-done : later n s payload ≡ 0 → outcome ≡ scanning 0 r room
+      outcome-done none = ap (λ (v : ℕ). scanning v r room) (verdict-judged judged ∙ none)
 
     -- What is known where 0 is answered: the judge accepts, the state is below n, the payload is not too long, and the numbers and the room are the scan's.
     pub outcome-accepts : outcome .number ≡ 0 → (first gs ≡ 0) × (s < n) × (length payload ≤ 65536) × (outcome ≡ scanning 0 r room)
     outcome-accepts e =
-        let none = sym (scanning-number (first (gs ++ runGrounds n s payload)) r room) ∙ e in
+        let none = sym (number-scanning (first (gs ++ runGrounds n s payload)) r room) ∙ e in
         let (i, j, k) = verdict-clear none in
         (i, j, k, ap (λ (v : ℕ). scanning v r room) none)

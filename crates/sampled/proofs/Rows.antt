@@ -19,6 +19,8 @@ use Rattle.sampled.specs.Sample14 as sample14
 use Rattle.sampled.specs.Sample15 as sample15
 use Rattle.sampled.specs.Sample16 as sample16
 use Rattle.sampled.specs.Sample17 as sample17
+use Rattle.sampled.specs.Sample18 as sample18
+use Rattle.sampled.specs.Sample19 as sample19
 
 -- The rows of Sample1 are right.
 pub sample1-right : right sample1.rows ≡ true
@@ -104,3 +106,13 @@ sample16-right = refl {a = true}
 pub sample17-right : right sample17.rows ≡ true
 unfolding agrees
 sample17-right = refl {a = true}
+
+-- The rows of Sample18 are right: edition 2.
+pub sample18-right : right sample18.rows ≡ true
+unfolding agrees
+sample18-right = refl {a = true}
+
+-- The rows of Sample19 are right: edition 2.
+pub sample19-right : right sample19.rows ≡ true
+unfolding agrees
+sample19-right = refl {a = true}

@@ -16,3 +16,5 @@ pub mod Sample14
 pub mod Sample15
 pub mod Sample16
 pub mod Sample17
+pub mod Sample18
+pub mod Sample19

@@ -4,18 +4,19 @@ use mathlib.Core.List.{List, [], _∷_, _++_, map}
 use Prim.Native.Nat.{ℕ, zero, suc, _-_, _%_}
 use lib.Dec.{eqb}
 use lib.ListN.{length, getD, take, drop, set, replicate}
-use Rattle.paper.specs.Words.{number16, number32, bytes16, bytes32, _⊕_, checkWord}
+use Rattle.paper.specs.Words.{number16, number32, bytes16, all16, bytes32, _⊕_, checkWord}
+use Rattle.paper.specs.Labels.{labelCount, label, labelsFrom, labelsBehind}
 use Rattle.paper.specs.Table.{labels, next, tableGrounds}
 use Rattle.paper.specs.View.{stored, depthOf, worstOf, viewGrounds}
 use Rattle.paper.specs.Image as image
 use Rattle.paper.specs.Image.{imageGrounds}
-use Rattle.paper.specs.Results.{labelBytes, recordBytes, entryBytes, front, trailer, parts, imageOfView, entriesOf, imageOf, tableFrom, tableOf}
+use Rattle.paper.specs.Results.{labelBytes, labelsHeld, recordBytes, entryBytes, front, trailer, parts, imageOfView, entriesOf, imageOf, tableFrom, tableOf}
 use Rattle.paper.specs.Forest.{weight, singles, endNear, joined, d, longest, joinedLongest, addedOrDropped, pairs, neighbours, isRoot, root, pointsTo, forest, towardRoot}
 use Rattle.paper.specs.FallBack.{levels, towardStart}
 use Rattle.paper.specs.Defaults.{defaults}
 use Rattle.paper.specs.Scan.{scanOf}
 use Rattle.paper.specs.Operations.{judgeTable, judgeImage, compacted, Built, compactGrounds, compact, writeGrounds, write, expandGrounds, expand, Scanned, scanGrounds, scan}
-use Rattle.paper.specs.Cases.{all16, same, scanned}
+use Rattle.paper.specs.Cases.{same, scanned}
 
 -- What is lent: a thing as it is, or of so many bytes, with zeros behind it or cut, and with other bytes at some places.
 pub data Lent : Type 0 where
@@ -103,7 +104,7 @@ module _ (t : List ℕ) (images : List (List ℕ)) where
 
   -- The definitions compute what the independent implementation answered and wrote.
   unfoldable pub agrees : Case → Bool
-  unfolding number16 number32 bytes16 bytes32 _⊕_ checkWord labels next tableGrounds stored depthOf worstOf viewGrounds image.labels image.default image.count image.entryAt imageGrounds labelBytes recordBytes entryBytes front trailer parts imageOfView entriesOf imageOf tableFrom tableOf weight singles endNear joined d longest joinedLongest addedOrDropped pairs neighbours isRoot root pointsTo forest towardRoot levels towardStart defaults scanOf judgeTable judgeImage compacted compactGrounds compact writeGrounds write expandGrounds expand scanGrounds scan
+  unfolding number16 number32 bytes16 bytes32 _⊕_ checkWord labelCount label labelsFrom labelsBehind labels next tableGrounds stored depthOf worstOf viewGrounds image.labels image.default image.count image.entryAt imageGrounds labelBytes labelsHeld recordBytes entryBytes front trailer parts imageOfView entriesOf imageOf tableFrom tableOf weight singles endNear joined d longest joinedLongest addedOrDropped pairs neighbours isRoot root pointsTo forest towardRoot levels towardStart defaults scanOf judgeTable judgeImage compacted compactGrounds compact writeGrounds write expandGrounds expand scanGrounds scan
   agrees (compacts order D r ns w) = builds (compact t order D (room r)) ns (after w r)
   agrees (writes ds n r ns w) = builds (write t (take n (all16 ds)) (room r)) ns (after w r)
   agrees (judges i l n) = eqb (judgeImage (lentBytes l (getD images i []))) n

@@ -1,24 +1,26 @@
 -- What one byte makes of the running scan of an image, as the loop's laws ask for it.
 use mathlib.Core.Path.{_≡_, sym, ap, _∙_}
 use mathlib.Core.List.{List}
-use Prim.Native.Nat.{ℕ, _+_, _≤_}
+use Prim.Native.Nat.{ℕ, _+_, _*_, _≤_, _<_}
 use native.Mathlib.Omega.{arith}
-use lib.ListN.{length}
-use Rattle.paper.specs.Table.{labelList}
+use lib.ListN.{length, getD}
+use Rattle.paper.specs.Labels.{two, editionOf}
 use Rattle.paper.specs.View.{look}
-use Rattle.paper.specs.Image.{classOf, labels, imageView}
+use Rattle.paper.specs.Image.{edition, states, classOf, labels, imageView}
+use Rattle.facts.proofs.LabelFacts.{most-16}
+use Rattle.facts.proofs.ImageFacts.{AcceptedImage}
+use Rattle.labels.specs.Tags.{tagOf, tagged}
+use Rattle.labels.proofs.Tags.{labels-tagged, tagged-in}
 use Rattle.running.proofs.Rules.{imageRules}
-use Rattle.running.proofs.Label.{label-one}
 use Rattle.running.proofs.Going.{Going}
 use Rattle.scan.specs.declared.Run.{Run}
 use Rattle.scan.specs.declared.Taken.{Taken}
-use Rattle.scan.specs.Running.{takenOf, Small}
-use Rattle.scan.proofs.OneByte.{labels-read}
+use Rattle.scan.specs.Running.{takenOf, Small, Tagged}
 
 -- The numbers have room for one byte more.
 pub going-small : {b : List ℕ} {most state : ℕ} {payload room₀ room : List ℕ} {r : Run} {i : ℕ} → Going (imageRules b) most state payload room₀ room (r .state) (r .reports) (r .hops) i
     → length payload ≤ 65536 → Small b r
-going-small g h = record { inside = g .inside; cheap = omega (arith, g .cheap, g .within); few = omega (arith, g .few, g .within) }
+going-small g h = record { inside = g .inside; cheap = omega (arith, g .cheap, g .within) }
 
 module _ (b : List ℕ) (r : Run) (byte : ℕ) (t : Taken) (t-is : t ≡ takenOf b r byte) where
   -- The state that it goes to.
@@ -34,14 +36,25 @@ module _ (b : List ℕ) (r : Run) (byte : ℕ) (t : Taken) (t-is : t ≡ takenOf
   unfolding takenOf
   hops-are = ap (λ (t : Taken). t .run .hops) t-is
 
-  -- Its labels are those that its label's number stands for.
-  pub label-is : labels b target ≡ labelList (t .label)
+  -- Its tag.
+  tag-is : t .tag ≡ tagOf b 268 target
   unfolding takenOf
-  label-is = labels-read b target ∙ ap labelList (sym (ap (λ (t : Taken). t .label) t-is))
+  tag-is = ap (λ (t : Taken). t .tag) t-is
 
-  -- Where that is not 0 there is one report more.
-  pub reports-are : ¬ (t .label ≡ 0) → t .run .reports ≡ r .reports + 1
-  unfolding takenOf
-  reports-are n =
-      ap (λ (t : Taken). t .run .reports) t-is
-      ∙ ap (λ (ls : List ℕ). r .reports + length ls) (label-is ∙ label-one (t .label) n)
+  module _ (A : AcceptedImage b) (inside : target < states b) (firsts : List ℕ) (word : ℕ) (T : Tagged b firsts word) where
+    -- Where its first label stands in edition 2.
+    abbrev from : ℕ
+    from = 268 + 2 * getD firsts (t .run .state) 0
+
+    -- Its labels are those that its tag stands for.
+    pub labels-are : labels b target ≡ tagged (editionOf word) b from (t .tag)
+    unfolding labels
+    labels-are = rw (T .edition-is, target-is, tag-is) (labels-tagged b 268 (states b) (edition b) firsts (T .firsts-are) target inside)
+
+    -- They are few.
+    pub labels-few : length (tagged (editionOf word) b from (t .tag)) ≤ 16
+    labels-few = rw (← labels-are) (omega (arith, A .all-labelled target inside .few, most-16 (edition b)))
+
+    -- In edition 2 they stand in the image.
+    pub labels-in : editionOf word ≡ two → from + 2 * t .tag ≤ length b
+    labels-in e = rw (target-is, tag-is) (tagged-in b 268 (states b) (edition b) firsts (T .firsts-are) target inside (sym (T .edition-is) ∙ e) (omega (arith, A .long)))

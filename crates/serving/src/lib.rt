@@ -4,8 +4,8 @@ ghost use Prim.Native.Nat.{_+_, _*_, _≤_, _<_};
 ghost use lib.ListN.{length, getD, set, take};
 ghost use Rattle.io.specs.Counts.{Counts};
 ghost use Rattle.paper.specs.Below.{each};
-ghost use Rattle.paper.specs.Image.{states, entries, imageLength};
-ghost use Rattle.paper.specs.Programs.{servedLines};
+ghost use Rattle.paper.specs.Image.{states};
+ghost use Rattle.paper.specs.Programs.{servedLines, imageEnd};
 ghost use Rattle.paper.specs.Promises.{PrintsServed};
 ghost use Rattle.facts.proofs.ImageFacts.{AcceptedImage};
 ghost use Rattle.image.specs.Laid.{Ready};
@@ -17,16 +17,21 @@ ghost use Rattle.serving.specs.Columns.{Zeros, CountsOf, serverOf, runni
 // The longest input that the program takes.
 const LONGEST: usize = 60000;
 
-// Where the image ends in an input that begins with one: at the length that its counts give, or at the input's own end where that comes first.
+// Where the image ends in an input that begins with one: at the length that its counts and labels give, or at the input's own end where that comes first.
 fn image_end(input: &[u8]) -> usize
-    ensures { λ r. ⌜ CutAt (now (input .entry)) (imageLength (states (now (input .entry))) (entries (now (input .entry)))) r ⌝ }
+    ensures { λ r. ⌜ CutAt (now (input .entry)) (imageEnd (now (input .entry))) r ⌝ }
 {
     if input.len() < 280 {
         return input.len();
     }
-    let n = words::get16(input, 0) as usize;
+    let word = words::get16(input, 0);
+    let n = labels::states_of(word);
+    if input.len() < 268 + 2 * n {
+        return input.len();
+    }
+    let held = labels::behind(input, 268, n, word);
     let m = words::get32(input, 8) as usize;
-    let end = 280 + 6 * n + 4 * m;
+    let end = 280 + 6 * n + 2 * held + 4 * m;
     if input.len() < end {
         return input.len();
     }

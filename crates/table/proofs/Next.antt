@@ -8,14 +8,14 @@ use Rattle.paper.specs.Below.{any}
 use Rattle.paper.specs.Words.{number16}
 use Rattle.paper.specs.Table.{states, classes, next}
 use Rattle.paper.proofs.Below.{any-same}
-use Rattle.facts.proofs.TableFacts.{AcceptedTable}
+use Rattle.facts.proofs.TableFacts.{AcceptedTable, table-few-labels}
 use Rattle.table.specs.Counted.{Counted}
 use Rattle.table.proofs.Rows.{any-rows}
 
 -- An accepted table has the counts that are read from it.
 pub accepted-counted : (t : List ℕ) (n k : ℕ) → n ≡ states t → k ≡ classes t → AcceptedTable t → Counted t n k
 accepted-counted t n k en ek A =
-    rw (en, ek) (record { states-are = refl; classes-are = refl; few-states = A .few-states; few-classes = A .few-classes; long = A .long })
+    rw (en, ek) (record { states-are = refl; classes-are = refl; few-states = A .few-states; few-classes = A .few-classes; few-labels = table-few-labels t A; long = A .long })
 
 module _ (t : List ℕ) (n k : ℕ) where
   -- The number in a cell of the rows, which are the last 2nk bytes.

@@ -4,8 +4,9 @@ ghost use mathlib.Core.Bool.{_||_, not};
 ghost use Prim.Native.Nat.{_+_, _≤_, _<_};
 ghost use lib.Dec.{leb, eqb};
 ghost use lib.ListN.{length};
-ghost use Rattle.paper.specs.Below.{any, outside};
+ghost use Rattle.paper.specs.Below.{any, differ, outside};
 ghost use Rattle.paper.specs.Words.{byteAt};
+ghost use Rattle.paper.specs.Labels.{editionOf, labelsBehind};
 ghost use Rattle.paper.specs.Table.{next, classesBad, tableLength};
 ghost use Rattle.paper.specs.Promises.{JudgesTable};
 ghost use Rattle.paper.proofs.Marks.{Seen};
@@ -27,12 +28,16 @@ pub fn counts_bad(n: usize, k: usize) -> bool
     256 < k
 }
 
-// The length that the counts give.
-fn table_length(n: usize, k: usize) -> usize
+// Ground 3: the length is not the one that n, k and the labels give. An input that ends inside the counts of labels is shorter.
+fn length_bad(t: &[u8], n: usize, k: usize, word: u16) -> bool
     requires { ⌜ (n ≤ 512) × (k ≤ 256) ⌝ }
-    ensures { λ r. ⌜ r ≡ tableLength n k ⌝ }
+    ensures { λ r. ⌜ r ≡ differ (length (now (t .entry))) (tableLength n k (labelsBehind (now (t .entry)) 262 n (editionOf word))) ⌝ }
 {
-    262 + 2 * n + 2 * (n * k)
+    if t.len() < 262 + 2 * n {
+        return true;
+    }
+    let behind = labels::behind(t, 262, n, word);
+    t.len() != 262 + 2 * n + 2 * behind + 2 * (n * k)
 }
 
 // Ground 7, first half: a byte's class, of the 256 that stand from `at` on, is not below k.
@@ -99,37 +104,40 @@ pub fn next_state(t: &[u8], n: usize, k: usize, s: usize, c: usize) -> u16
     words::get16(t, t.len() - 2 * (n * k) + 2 * (s * k + c))
 }
 
-// Ground 10: a next state is not below n.
+// Ground 10: a next state is not below n. It is so where the largest is not.
 fn next_bad(t: &[u8], n: usize, k: usize) -> bool
-    requires { ⌜ Counted (now t) n k ⌝ }
+    requires { ⌜ Counted (now t) n k × (0 < n) ⌝ }
     ensures { λ r. ⌜ r ≡ any n (λ s. any k (λ c. leb n (next (now (t .entry)) s c))) ⌝ }
 {
     let cells = n * k;
     let rows = t.len() - 2 * cells;
+    let mut most = 0;
     let mut j = 0;
     while j < cells {
-        if n <= words::get16(t, rows + 2 * j) as usize {
-            return true;
-        }
+        most = words::larger(words::get16(t, rows + 2 * j), most);
         j += 1;
     }
-    false
+    n <= most as usize
 }
 
-// Judges a table: 0, or the number of the first ground, in the order 1, 2, 3, 6, 7, 10, that applies.
+// Judges a table: 0, or the number of the first ground, in the order 1, 2, 19, 3, 6, 7, 19, 10, that applies.
 pub fn judge_table(t: &[u8]) -> u32
     ensures { λ r. ⌜ JudgesTable (now (t .entry)) r ⌝ }
 {
     if t.len() < 6 {
         return 1;
     }
-    let n = words::get16(t, 0) as usize;
+    let word = words::get16(t, 0);
+    let n = labels::states_of(word);
     let k = words::get16(t, 2) as usize;
     let start = words::get16(t, 4) as usize;
     if counts_bad(n, k) {
         return 2;
     }
-    if t.len() != table_length(n, k) {
+    if labels::counts_bad(t, 262, n, word) {
+        return 19;
+    }
+    if length_bad(t, n, k, word) {
         return 3;
     }
     if n <= start {
@@ -137,6 +145,9 @@ pub fn judge_table(t: &[u8]) -> u32
     }
     if classes_bad(t, 6, k) {
         return 7;
+    }
+    if labels::labels_bad(t, 262, n, word) {
+        return 19;
     }
     if next_bad(t, n, k) {
         return 10;

@@ -11,9 +11,9 @@ use Rattle.paper.specs.Image as image
 use Rattle.paper.specs.Image.{imageView}
 use Rattle.paper.specs.Results.{tableView, imageOf, tableOf}
 use Rattle.paper.specs.Operations.{judgeImage}
+use Rattle.paper.proofs.Labels.{labels-small, behind-same}
 use Rattle.facts.proofs.TableFacts.{accepted-table}
 use Rattle.facts.proofs.ImageFacts.{image-accepted}
-use Rattle.trips.proofs.Labels.{table-labelled}
 use Rattle.trips.proofs.Agree.{find-same}
 use Rattle.trips.proofs.Stored.{targetOf, goes}
 use Rattle.trips.proofs.Writable.{Writable, find-next, table-sound}
@@ -30,7 +30,8 @@ module _ (t : List ℕ) (default : ℕ → Option ℕ) (B : Bytes t) (W : Writab
   abbrev i : List ℕ
   i = imageOf t default
 
-  fits : Fits v (table.start t) (table.classOf t) (table.labels t)
+  fits : Fits (table.edition t) v (table.start t) (table.classOf t) (table.labels t)
+  unfolding table.labels
   fits =
       let A = accepted-table t (W .judged) in
       record {
@@ -40,18 +41,23 @@ module _ (t : List ℕ) (default : ℕ → Option ℕ) (B : Bytes t) (W : Writab
         few-classes = A .few-classes;
         begins = A .begins;
         all-classed = A .all-classed;
-        all-labelled = λ s hs. table-labelled t s B;
+        all-labelled = A .all-labelled;
+        all-small = λ s hs. labels-small t 262 (table.states t) (table.edition t) B s;
         right = table-sound t default W;
       }
 
   -- The image reads as the table's view with the defaults.
-  pub reads : ImageReads v (table.start t) (table.classOf t) (table.labels t) i
+  pub reads : ImageReads (table.edition t) v (table.start t) (table.classOf t) (table.labels t) i
   unfolding imageOf
-  reads = image-reads v (table.start t) (table.classOf t) (table.labels t) fits
+  reads = image-reads (table.edition t) v (table.start t) (table.classOf t) (table.labels t) fits
+
+  -- The image keeps the table's edition.
+  pub image-of-edition : image.edition (imageOf t default) ≡ table.edition t
+  image-of-edition = reads .edition-is
 
   -- The image is accepted.
   pub image-of-accepted : judgeImage (imageOf t default) ≡ 0
-  image-of-accepted = image-accepted i (reads-accepted v (table.start t) (table.classOf t) (table.labels t) fits i reads)
+  image-of-accepted = image-accepted i (reads-accepted (table.edition t) v (table.start t) (table.classOf t) (table.labels t) fits i reads)
 
   -- Its defaults are those given.
   pub defaults-of-image : (s : ℕ) → s < table.states t → image.default (imageOf t default) s ≡ default s
@@ -65,18 +71,21 @@ module _ (t : List ℕ) (default : ℕ → Option ℕ) (B : Bytes t) (W : Writab
 
   -- Its table is the table.
   pub table-of-image : tableOf (imageOf t default) ≡ t
-  unfolding tableOf
+  unfolding tableOf table.labels
   table-of-image =
       let S = reads .view-is in
       let N = S .states-same in
       let K = S .classes-same in
-      let R : TableReads (image.states i) (image.classes i) (image.start i) (image.classOf i) (image.labels i) (goes (imageView i)) t = record {
-        long = accepted-table t (W .judged) .long ∙ rw (← N, ← K) refl;
+      let E = sym (reads .edition-is) in
+      let same : (s : ℕ) → s < image.states i → table.labels t s ≡ image.labels i s = λ s hs. sym (reads .labels-are s (omega arith)) in
+      let R : TableReads (image.edition i) (image.states i) (image.classes i) (image.start i) (image.classOf i) (image.labels i) (goes (imageView i)) t = record {
+        long = accepted-table t (W .judged) .long ∙ rw (behind-same t 262 (table.states t) (image.states i) (table.edition t) (image.edition i) (image.labels i) N E same, ← N, ← K) refl;
+        edition-is = E;
         states-is = N;
         classes-is = K;
         start-is = sym (reads .start-is);
         class-is = λ x hx. sym (reads .class-is x hx);
-        labels-are = λ s hs. sym (reads .labels-are s (omega arith));
+        labels-are = same;
         next-is = λ s c hs hc. goes-next s c (omega arith) (omega arith);
       } in
-      table-back (image.states i) (image.classes i) (image.start i) (image.classOf i) (image.labels i) (goes (imageView i)) t B R
+      table-back (image.edition i) (image.states i) (image.classes i) (image.start i) (image.classOf i) (image.labels i) (goes (imageView i)) t B R

@@ -6,39 +6,45 @@ use native.Mathlib.Nat.{mul-le-mul}
 use native.Mathlib.Omega.{arith}
 use lib.ListN.{length, take}
 use Rattle.paper.specs.Words.{number16, number32, bytes16, bytes32, words, checkWord}
+use Rattle.paper.specs.Labels.{Edition, editionOf, statesOf, firstWord}
 use Rattle.paper.specs.View.{View, depthOf, worstOf}
 use Rattle.paper.specs.Image as image
 use Rattle.paper.specs.Image.{defaultFrom, imageLength}
-use Rattle.paper.specs.Results.{defaultNumber, recordBytes, entryBytes, front, trailer, imageOfView}
+use Rattle.paper.specs.Results.{defaultNumber, labelsHeld, recordBytes, entryBytes, front, trailer, imageOfView}
+use Rattle.paper.proofs.Editions.{edition-read, states-read, word-small}
+use Rattle.paper.proofs.Labels.{labels-named, held-bound}
 use Rattle.paper.proofs.Chain.{chain-short, depth-met}
 use Rattle.paper.proofs.Look.{worst-le-depth}
+use Rattle.facts.proofs.LabelFacts.{most-16}
 use Rattle.trips.proofs.Spans.{Spans, spans-move, spans-part, spans-take, peel}
 use Rattle.trips.proofs.Numbers.{read16, read32, read-pair, read-bytes}
-use Rattle.trips.proofs.Labels.{default-back, read-labels}
-use Rattle.trips.proofs.ImageParts.{total, recordPlace, rowPlace, entryPlace, entry, record-wide, entry-wide, row-wide, default-at, count-at, entry-at, checkOf, Placed, placed-parts, image-placed, image-length}
+use Rattle.trips.proofs.Labels.{default-back}
+use Rattle.trips.proofs.LabelBytes.{read-labels}
+use Rattle.trips.proofs.ImageParts.{total, recordPlace, rowPlace, entryPlace, endPlace, checkPlace, entry, record-wide, entry-wide, row-wide, default-at, count-at, entry-at, checkOf, Placed, placed-parts, image-placed, image-length}
 use Rattle.trips.proofs.ImageReads.{Fits, ImageReads, total-bound}
 
 -- The numbers of a front.
-front-reads : (b : List ℕ) (n k s d m z : ℕ) → Spans b 0 (front n k s d m) z → n < 65536 → k < 65536 → s < 65536 → d < 65536 → m < 4294967296
-    → (image.states b ≡ n) × (image.classes b ≡ k) × (image.start b ≡ s) × (image.depth b ≡ d) × (image.entries b ≡ m)
+front-reads : (b : List ℕ) (e : Edition) (n k s d m z : ℕ) → Spans b 0 (front e n k s d m) z → n < 32768 → k < 65536 → s < 65536 → d < 65536
+    → m < 4294967296 → (image.edition b ≡ e) × (image.states b ≡ n) × (image.classes b ≡ k) × (image.start b ≡ s) × (image.depth b ≡ d) × (image.entries b ≡ m)
 unfolding front bytes16
-front-reads b n k s d m z h hn hk hs hd hm =
-    let (p₀, q₀) = peel (bytes16 n) (bytes16 k ++ (bytes16 s ++ (bytes16 d ++ bytes32 m))) 2 h refl in
+front-reads b e n k s d m z h hn hk hs hd hm =
+    let (p₀, q₀) = peel (bytes16 (firstWord e n)) (bytes16 k ++ (bytes16 s ++ (bytes16 d ++ bytes32 m))) 2 h refl in
     let (p₁, q₁) = peel (bytes16 k) (bytes16 s ++ (bytes16 d ++ bytes32 m)) 4 q₀ refl in
     let (p₂, q₂) = peel (bytes16 s) (bytes16 d ++ bytes32 m) 6 q₁ refl in
     let (p₃, q₃) = peel (bytes16 d) (bytes32 m) 8 q₂ refl in
-    (read16 n p₀ hn, read16 k p₁ hk, read16 s p₂ hs, read16 d p₃ hd, read32 m q₃ hm)
+    let word = read16 (firstWord e n) p₀ (word-small e n hn) in
+    (ap editionOf word ∙ edition-read e n hn, ap statesOf word ∙ states-read e n hn, read16 k p₁ hk, read16 s p₂ hs, read16 d p₃ hd, read32 m q₃ hm)
 
 -- The numbers of a trailer.
-trailer-reads : (b : List ℕ) (x n m w z : ℕ) → Spans b x (trailer n m w) z → 4 * m + 12 < 4294967296 → imageLength n m < 4294967296 → w < 65536
-    → (number32 b x ≡ 4 * m + 12) × (number32 b (x + 4) ≡ imageLength n m) × (number16 b (x + 8) ≡ w)
+trailer-reads : (b : List ℕ) (x n m l w z : ℕ) → Spans b x (trailer n m l w) z → 4 * m + 12 < 4294967296 → imageLength n m l < 4294967296 → w < 65536
+    → (number32 b x ≡ 4 * m + 12) × (number32 b (x + 4) ≡ imageLength n m l) × (number16 b (x + 8) ≡ w)
 unfolding trailer bytes32 bytes16
-trailer-reads b x n m w z h hd hl hw =
-    let (p₀, q₀) = peel (bytes32 (4 * m + 12)) (bytes32 (imageLength n m) ++ bytes16 w) (x + 4) h refl in
-    let (p₁, q₁) = peel (bytes32 (imageLength n m)) (bytes16 w) (x + 8) q₀ (omega arith) in
-    (read32 (4 * m + 12) p₀ hd, read32 (imageLength n m) p₁ hl, read16 w q₁ hw)
+trailer-reads b x n m l w z h hd hl hw =
+    let (p₀, q₀) = peel (bytes32 (4 * m + 12)) (bytes32 (imageLength n m l) ++ bytes16 w) (x + 4) h refl in
+    let (p₁, q₁) = peel (bytes32 (imageLength n m l)) (bytes16 w) (x + 8) q₀ (omega arith) in
+    (read32 (4 * m + 12) p₀ hd, read32 (imageLength n m l) p₁ hl, read16 w q₁ hw)
 
-module _ (v : View) (start : ℕ) (classOf : ℕ → ℕ) (labels : ℕ → List ℕ) (F : Fits v start classOf labels) where
+module _ (e : Edition) (v : View) (start : ℕ) (classOf : ℕ → ℕ) (labels : ℕ → List ℕ) (F : Fits e v start classOf labels) where
   -- n, the number of states.
   abbrev n : ℕ
   n = v .states
@@ -47,35 +53,42 @@ module _ (v : View) (start : ℕ) (classOf : ℕ → ℕ) (labels : ℕ → List
   abbrev m : ℕ
   m = total v
 
+  -- How many labels stand behind their counts.
+  abbrev held : ℕ
+  held = labelsHeld e n labels
+
   -- The image.
   abbrev i : List ℕ
-  i = imageOfView v start classOf labels
+  i = imageOfView e v start classOf labels
 
-  P : Placed v start classOf labels i
-  P = image-placed v start classOf labels .0
+  P : Placed e v start classOf labels i
+  P = image-placed e v start classOf labels .0
 
   small : m ≤ 131072
-  small = omega (arith, total-bound v start classOf labels F, mul-le-mul (F .few-states) (F .few-classes))
+  small = omega (arith, total-bound e v start classOf labels F, mul-le-mul (F .few-states) (F .few-classes))
+
+  few : held ≤ 8192
+  few = omega (arith, held-bound e n 16 labels (λ s hs. omega (arith, F .all-labelled s hs .few, most-16 e)), F .few-states)
 
   deep : depthOf v < n
   deep = let (s, hs, e) = depth-met v (F .some-states) (F .right .ends) in chain-short v n s (depthOf v) e
 
-  long : length i ≡ imageLength n m
-  long = image-length v start classOf labels
+  long : length i ≡ imageLength n m held
+  long = image-length e v start classOf labels
 
-  fronts : (image.states i ≡ n) × (image.classes i ≡ v .classes) × (image.start i ≡ start) × (image.depth i ≡ depthOf v) × (image.entries i ≡ m)
+  fronts : (image.edition i ≡ e) × (image.states i ≡ n) × (image.classes i ≡ v .classes) × (image.start i ≡ start) × (image.depth i ≡ depthOf v) × (image.entries i ≡ m)
   fronts =
-      front-reads i n (v .classes) start (depthOf v) m 12 (P .at-front)
+      front-reads i e n (v .classes) start (depthOf v) m 12 (P .at-front)
       (omega (arith, F .few-states)) (omega (arith, F .few-classes)) (omega (arith, F .begins, F .few-states)) (omega (arith, deep, F .few-states)) (omega (arith, small))
 
-  trailers : (image.distanceBack i ≡ 4 * m + 12) × (image.wholeLength i ≡ imageLength n m) × (image.worst i ≡ worstOf v classOf)
+  trailers : (image.distanceBack i ≡ 4 * m + 12) × (image.wholeLength i ≡ imageLength n m held) × (image.worst i ≡ worstOf v classOf)
   trailers =
-      let x = 268 + 6 * n + 4 * m in
+      let x = endPlace v held in
       let e₀ : length i - 12 ≡ x = omega (arith, long) in
       let e₁ : length i - 8 ≡ x + 4 = omega (arith, long) in
       let e₂ : length i - 4 ≡ x + 8 = omega (arith, long) in
-      let (d, w, h) = trailer-reads i x n m (worstOf v classOf) (278 + 6 * n + 4 * m) (P .at-end)
-      (omega (arith, small)) (omega (arith, small, F .few-states)) (omega (arith, worst-le-depth v classOf (F .right .ends), deep, F .few-states)) in
+      let (d, w, h) = trailer-reads i x n m held (worstOf v classOf) (checkPlace v held) (P .at-end)
+      (omega (arith, small)) (omega (arith, small, few, F .few-states)) (omega (arith, worst-le-depth v classOf (F .right .ends), deep, F .few-states)) in
       (ap (number32 i) e₀ ∙ d, ap (number32 i) e₁ ∙ w, ap (number16 i) e₂ ∙ h)
 
   check-small : (ws : List ℕ) → checkWord ws < 65536
@@ -84,46 +97,47 @@ module _ (v : View) (start : ℕ) (classOf : ℕ → ℕ) (labels : ℕ → List
 
   checks : image.check i ≡ checkWord (words (take (length i - 2) i))
   checks =
-      let e : length i - 2 ≡ 278 + 6 * n + 4 * m = omega (arith, long) in
-      ap (number16 i) e ∙ read16 (checkOf v start classOf labels) (image-placed v start classOf labels .1) (check-small _)
-      ∙ ap (λ (l : List ℕ). checkWord (words l)) (sym (spans-take (placed-parts v start classOf labels P) (omega (arith, long))))
-      ∙ ap (λ (x : ℕ). checkWord (words (take x i))) (sym e)
+      let last : length i - 2 ≡ checkPlace v held = omega (arith, long) in
+      ap (number16 i) last ∙ read16 (checkOf e v start classOf labels) (image-placed e v start classOf labels .1) (check-small _)
+      ∙ ap (λ (l : List ℕ). checkWord (words l)) (sym (spans-take (placed-parts e v start classOf labels P) (omega (arith, long))))
+      ∙ ap (λ (x : ℕ). checkWord (words (take x i))) (sym last)
 
   -- The records and entries.
   record-reads : (s : ℕ) → s < n → (image.default i s ≡ v .default s) × (image.count i s ≡ v .count s)
   unfolding recordBytes
   record-reads s hs =
-      let (N, _, _, _, M) = fronts in
+      let (_, N, _, _, _, M) = fronts in
       let (fits, back) = default-back (v .default s) (λ d q. omega (arith, F .right .inside s d hs q, F .few-states)) in
       let (p, q) = read-pair (defaultNumber (v .default s)) (v .count s)
-      (spans-part (recordBytes v) (recordPlace v) (record-wide v) n s (spans-move (P .at-records) (omega arith) refl) hs)
+      (spans-part (recordBytes v) (recordPlace v held) (record-wide v held) n s (spans-move (P .at-records) (omega arith) refl) hs)
       fits (omega (arith, F .right .few s hs, F .few-classes)) in
-      (default-at v i long N M s ∙ ap defaultFrom p ∙ back, count-at v i long N M s ∙ q)
+      (default-at v held i long N M s ∙ ap defaultFrom p ∙ back, count-at v held i long N M s ∙ q)
 
-  place : (s j : ℕ) → s < n → image.entryAt i s j ≡ entryPlace v s j
-  place s j hs = let (N, _, _, _, M) = fronts in entry-at v i long N M s j (λ r hr. record-reads r (omega arith) .1)
+  place : (s j : ℕ) → s < n → image.entryAt i s j ≡ entryPlace v held s j
+  place s j hs = let (_, N, _, _, _, M) = fronts in entry-at v held i long N M s j (λ r hr. record-reads r (omega arith) .1)
 
   entry-reads : (s j : ℕ) → s < n → j < v .count s → (number16 i (image.entryAt i s j) ≡ v .entryClass s j) × (number16 i (image.entryAt i s j + 2) ≡ v .entryNext s j)
   unfolding entryBytes
   entry-reads s j hs hj =
-      let rows = spans-part (entryBytes v) (rowPlace v) (row-wide v) n s (spans-move (P .at-entries) (omega arith) refl) hs in
+      let rows = spans-part (entryBytes v) (rowPlace v held) (row-wide v held) n s (spans-move (P .at-entries) (omega arith) refl) hs in
       rw (place s j hs)
-      (read-pair (v .entryClass s j) (v .entryNext s j) (spans-part (entry v s) (entryPlace v s) (entry-wide v s) (v .count s) j (spans-move rows (omega arith) refl) hj)
+      (read-pair (v .entryClass s j) (v .entryNext s j) (spans-part (entry v s) (entryPlace v held s) (entry-wide v held s) (v .count s) j (spans-move rows (omega arith) refl) hj)
       (omega (arith, F .right .class-below s j hs hj, F .few-classes)) (omega (arith, F .right .next-below s j hs hj, F .few-states)))
 
   -- All that was written is read.
-  pub image-reads : ImageReads v start classOf labels i
+  pub image-reads : ImageReads e v start classOf labels i
   unfolding image.labels
   image-reads =
-      let (N, K, A, D, M) = fronts in
+      let (E, N, K, A, D, M) = fronts in
       let (back, whole, far) = trailers in
       record {
         long = long;
+        edition-is = E;
         start-is = A;
         depth-is = D;
         entries-are = M;
         class-is = read-bytes 256 classOf (P .at-classes);
-        labels-are = λ s hs. read-labels 268 n labels (P .at-labels) s hs (F .all-labelled s hs);
+        labels-are = λ s hs. labels-named i 268 s N E ∙ read-labels 268 n labels e (P .at-labels) (F .all-labelled) (F .all-small) s hs;
         view-is =
             record {
               states-same = sym N;

@@ -1,6 +1,8 @@
 pub mod Spans
 pub mod Numbers
 pub mod Labels
+pub mod LabelLists
+pub mod LabelBytes
 pub mod Agree
 pub mod Stored
 pub mod Unique
@@ -21,3 +23,4 @@ pub mod Building
 pub mod Accepts
 pub mod ExpandsBack
 pub mod WritesBack
+pub mod EditionKept

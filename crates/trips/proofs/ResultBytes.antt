@@ -3,8 +3,10 @@ use mathlib.Core.Option.{Option}
 use mathlib.Core.List.{List, [], _∷_, _++_}
 use Prim.Native.Nat.{ℕ, zero, suc, _+_, _*_, _/_, _%_, _<_}
 use native.Mathlib.Omega.{arith}
+use lib.ListN.{length}
 use Rattle.paper.specs.Below.{each, list}
-use Rattle.paper.specs.Words.{Bytes, bytes16, bytes32}
+use Rattle.paper.specs.Words.{Bytes, bytes16, all16, bytes32}
+use Rattle.paper.specs.Labels.{Edition, one, two, firstWord}
 use Rattle.paper.specs.Table as table
 use Rattle.paper.specs.View.{View}
 use Rattle.paper.specs.Image as image
@@ -50,26 +52,32 @@ part32 x = then-part (part16 (x % 65536)) (part16 (x / 65536))
 list-part : (n : ℕ) (f : ℕ → ℕ) → ((i : ℕ) → f i < 256) → Part (list n f)
 list-part n f h = each-part n (λ i. byte-part (f i) (h i) none-part)
 
-labels-part : (n : ℕ) (labels : ℕ → List ℕ) → Part (labelBytes n labels)
+-- Labels, in both editions.
+all-part : (ls : List ℕ) → Part (all16 ls)
+all-part [] = none-part
+all-part (l ∷ ls) = then-part (part16 l) (all-part ls)
+
+labels-part : (e : Edition) (n : ℕ) (labels : ℕ → List ℕ) → Part (labelBytes e n labels)
 unfolding labelBytes
-labels-part n labels = each-part n (λ s. part16 (labelNumber (labels s)))
+labels-part one n labels = each-part n (λ s. part16 (labelNumber (labels s)))
+labels-part two n labels = then-part (each-part n (λ s. part16 (length (labels s)))) (each-part n (λ s. all-part (labels s)))
 
 -- A table whose classes are bytes.
-table-part : (n k start : ℕ) (classOf : ℕ → ℕ) (labels : ℕ → List ℕ) (next : ℕ → ℕ → ℕ) → ((x : ℕ) → classOf x < 256) → Part (tableFrom n k start classOf labels next)
+table-part : (e : Edition) (n k start : ℕ) (classOf : ℕ → ℕ) (labels : ℕ → List ℕ) (next : ℕ → ℕ → ℕ) → ((x : ℕ) → classOf x < 256) → Part (tableFrom e n k start classOf labels next)
 unfolding tableFrom
-table-part n k start classOf labels next h =
-    then-part (part16 n) (then-part (part16 k) (then-part (part16 start) (then-part (list-part 256 classOf h)
-    (then-part (labels-part n labels) (each-part n (λ s. each-part k (λ c. part16 (next s c))))))))
+table-part e n k start classOf labels next h =
+    then-part (part16 (firstWord e n)) (then-part (part16 k) (then-part (part16 start) (then-part (list-part 256 classOf h)
+    (then-part (labels-part e n labels) (each-part n (λ s. each-part k (λ c. part16 (next s c))))))))
 
 -- The parts of an image whose classes are bytes.
-module _ (v : View) (start : ℕ) (classOf : ℕ → ℕ) (labels : ℕ → List ℕ) (h : (x : ℕ) → classOf x < 256) where
-  front-part : (n k start depth m : ℕ) → Part (front n k start depth m)
+module _ (e : Edition) (v : View) (start : ℕ) (classOf : ℕ → ℕ) (labels : ℕ → List ℕ) (h : (x : ℕ) → classOf x < 256) where
+  front-part : (n k start depth m : ℕ) → Part (front e n k start depth m)
   unfolding front
-  front-part n k start depth m = then-part (part16 n) (then-part (part16 k) (then-part (part16 start) (then-part (part16 depth) (part32 m))))
+  front-part n k start depth m = then-part (part16 (firstWord e n)) (then-part (part16 k) (then-part (part16 start) (then-part (part16 depth) (part32 m))))
 
-  trailer-part : (n m worst : ℕ) → Part (trailer n m worst)
+  trailer-part : (n m behind worst : ℕ) → Part (trailer n m behind worst)
   unfolding trailer
-  trailer-part n m worst = then-part (part32 (4 * m + 12)) (then-part (part32 (imageLength n m)) (part16 worst))
+  trailer-part n m behind worst = then-part (part32 (4 * m + 12)) (then-part (part32 (imageLength n m behind)) (part16 worst))
 
   record-part : (s : ℕ) → Part (recordBytes v s)
   unfolding recordBytes
@@ -79,22 +87,22 @@ module _ (v : View) (start : ℕ) (classOf : ℕ → ℕ) (labels : ℕ → List
   unfolding entryBytes
   entries-part s = each-part (v .count s) (λ j. then-part (part16 (v .entryClass s j)) (part16 (v .entryNext s j)))
 
-  parts-part : {ending : List ℕ} → Part ending → Part (parts v start classOf labels ending)
+  parts-part : {ending : List ℕ} → Part ending → Part (parts e v start classOf labels ending)
   unfolding parts
   parts-part P =
-      then-part (front-part _ _ _ _ _) (then-part (list-part 256 classOf h) (then-part (labels-part (v .states) labels)
+      then-part (front-part _ _ _ _ _) (then-part (list-part 256 classOf h) (then-part (labels-part e (v .states) labels)
       (then-part (each-part (v .states) record-part) (then-part (each-part (v .states) entries-part) P))))
 
-  image-part : Part (imageOfView v start classOf labels)
+  image-part : Part (imageOfView e v start classOf labels)
   unfolding imageOfView
-  image-part = parts-part (then-part (trailer-part _ _ _) (part16 _))
+  image-part = parts-part (then-part (trailer-part _ _ _ _) (part16 _))
 
 -- The image of a table is bytes.
 pub image-of-bytes : (t : List ℕ) (default : ℕ → Option ℕ) → Bytes t → Bytes (imageOf t default)
 unfolding imageOf
-image-of-bytes t default B = image-part (tableView t default) (table.start t) (table.classOf t) (table.labels t) (λ x. B (6 + x)) .are
+image-of-bytes t default B = image-part (table.edition t) (tableView t default) (table.start t) (table.classOf t) (table.labels t) (λ x. B (6 + x)) .are
 
 -- The table of an image is bytes.
 pub table-of-bytes : (b : List ℕ) → Bytes b → Bytes (tableOf b)
 unfolding tableOf
-table-of-bytes b B = table-part (image.states b) (image.classes b) (image.start b) (image.classOf b) (image.labels b) _ (λ x. B (12 + x)) .are
+table-of-bytes b B = table-part (image.edition b) (image.states b) (image.classes b) (image.start b) (image.classOf b) (image.labels b) _ (λ x. B (12 + x)) .are

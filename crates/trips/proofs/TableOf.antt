@@ -1,21 +1,21 @@
 -- The second round trip: the table of an accepted image is accepted, and with the image's defaults its image is that image.
-use mathlib.Core.Path.{_≡_, refl, sym, ap, ap₂, _∙_}
+use mathlib.Core.Path.{_≡_, refl, sym, ap, _∙_}
 use mathlib.Core.Option.{Option}
 use mathlib.Core.List.{List}
 use Prim.Native.Nat.{ℕ, _<_}
 use native.Mathlib.Omega.{arith}
 use Rattle.paper.specs.Words.{Bytes}
 use Rattle.paper.specs.Table as table
-use Rattle.paper.specs.Table.{tableLength}
 use Rattle.paper.specs.View.{View, chain}
 use Rattle.paper.specs.Image as image
 use Rattle.paper.specs.Image.{imageView}
 use Rattle.paper.specs.Results.{tableView, imageOf, tableOf}
 use Rattle.paper.specs.Operations.{judgeTable, judgeImage}
 use Rattle.paper.proofs.Words.{number16-below}
+use Rattle.paper.proofs.Labels.{labels-small, behind-same}
+use Rattle.facts.proofs.LabelFacts.{labelled-same}
 use Rattle.facts.proofs.TableFacts.{AcceptedTable, table-accepted}
 use Rattle.facts.proofs.ImageFacts.{AcceptedImage, accepted-image}
-use Rattle.trips.proofs.Labels.{image-labelled}
 use Rattle.trips.proofs.Agree.{Agree, chain-same}
 use Rattle.trips.proofs.Stored.{targetOf, goes, goes-below}
 use Rattle.trips.proofs.Unique.{one-view}
@@ -41,14 +41,15 @@ module _ (b : List ℕ) (B : Bytes b) (e : judgeImage b ≡ 0) where
   A = accepted-image b e
 
   -- Of its table are read its own numbers, and where its states go.
-  pub table-reads : TableReads n k (image.start b) (image.classOf b) (image.labels b) (goes (imageView b)) (tableOf b)
-  unfolding tableOf
+  pub table-reads : TableReads (image.edition b) n k (image.start b) (image.classOf b) (image.labels b) (goes (imageView b)) (tableOf b)
+  unfolding tableOf image.labels
   table-reads =
-      made-reads n k (image.start b) (image.classOf b) (image.labels b) (goes (imageView b))
-      (omega (arith, A .few-states)) (omega (arith, A .few-classes)) (number16-below b 4 B) (λ s hs. image-labelled b s B)
+      made-reads (image.edition b) n k (image.start b) (image.classOf b) (image.labels b) (goes (imageView b))
+      (omega (arith, A .few-states)) (omega (arith, A .few-classes)) (number16-below b 4 B) (A .all-labelled) (λ s hs. labels-small b 268 n (image.edition b) B s)
       (λ s c hs hc. omega (arith, goes-below (imageView b) (A .right) s c hs hc, A .few-states))
 
   table-right : AcceptedTable t
+  unfolding table.labels
   table-right =
       let R = table-reads in
       let N = R .states-is in
@@ -58,14 +59,19 @@ module _ (b : List ℕ) (B : Bytes b) (e : judgeImage b ≡ 0) where
         few-states = omega (arith, A .few-states);
         some-classes = omega (arith, A .some-classes);
         few-classes = omega (arith, A .few-classes);
-        long = R .long ∙ sym (ap₂ tableLength N K);
+        long = R .long ∙ rw (behind-same t 262 (table.states t) n (table.edition t) (image.edition b) (image.labels b) N (R .edition-is) (R .labels-are), N, K) refl;
         begins = omega (arith, R .start-is, A .begins);
         all-classed = classed-same k (table.classes t) (image.classOf b) (table.classOf t) (sym K) (R .class-is) (A .all-classed);
+        all-labelled = λ s hs. let l : s < n = omega arith in labelled-same (R .edition-is) (R .labels-are s l) (A .all-labelled s l);
         inside = λ s c hs hc.
             let hs′ : s < n = omega arith in
             let hc′ : c < k = omega arith in
             omega (arith, R .next-is s c hs′ hc′, goes-below (imageView b) (A .right) s c hs′ hc′);
       }
+
+  -- The table keeps the image's edition.
+  pub table-of-edition : table.edition (tableOf b) ≡ image.edition b
+  table-of-edition = table-reads .edition-is
 
   -- The table is accepted.
   pub table-of-accepted : judgeTable (tableOf b) ≡ 0
@@ -107,9 +113,9 @@ module _ (b : List ℕ) (B : Bytes b) (e : judgeImage b ≡ 0) where
     image-of-defaults =
         let R = table-reads in
         let N = R .states-is in
-        image-back v (table.start t) (table.classOf t) (table.labels t) b B
-        (accepted-reads v (table.start t) (table.classOf t) (table.labels t) b A views-agree (table-of-writable .inside)
-        (sym (R .start-is)) (λ x hx. sym (R .class-is x hx)) (λ s hs. sym (R .labels-are s (omega arith))))
+        image-back (table.edition t) v (table.start t) (table.classOf t) (table.labels t) b B
+        (accepted-reads (table.edition t) v (table.start t) (table.classOf t) (table.labels t) b A views-agree (table-of-writable .inside)
+        (sym (R .edition-is)) (sym (R .start-is)) (λ x hx. sym (R .class-is x hx)) (λ s hs. sym (R .labels-are s (omega arith))))
 
   -- So it is with the image's defaults themselves.
   pub image-of-table : imageOf (tableOf b) (image.default b) ≡ b

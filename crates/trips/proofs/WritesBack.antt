@@ -47,7 +47,7 @@ write-table b ds room B e D h =
     ∙ ap (λ (x : List ℕ). building 0 x room) i
 
 -- What expand accepts is an accepted image, and leaves its table.
-expand-leaves : (b room : List ℕ) → expand b room .number ≡ 0 → (judgeImage b ≡ 0) × (result (expand b room) ≡ tableOf b)
+pub expand-leaves : (b room : List ℕ) → expand b room .number ≡ 0 → (judgeImage b ≡ 0) × (result (expand b room) ≡ tableOf b)
 unfolding expand
 expand-leaves b room e =
     let (z, w) = built-result (first (expandGrounds b (length room))) (tableOf b) room e in

@@ -23,12 +23,13 @@ pub struct View<'a> {
     pub m: u32,
 }
 
-// Reads the counts.
+// Reads the counts. The first word holds n and, in edition 2, 32768 above it.
 pub fn counted(image: &[u8]) -> Counts
     requires { ⌜ 11 < length (now image) ⌝ }
     ensures { λ r. ⌜ r ≡ countsOf (now (image .entry)) ⌝ }
 {
-    let n = words::get16(image, 0);
+    let word = words::get16(image, 0);
+    let n = word % 32768;
     let k = words::get16(image, 2);
     let m = words::get32(image, 8);
     Counts { n: n, k: k, m: m }
@@ -73,7 +74,7 @@ pub fn record_from(image: &[u8], state: u16) -> image::Record
     record_of(open(image), state)
 }
 
-// The label of a state.
+// The number that stands for a state's labels: in edition 1 its label, in edition 2 how many it has.
 fn label_in(image: &[u8], state: u16) -> u16
     requires { ⌜ Laid (now image) × (state < states (now image)) ⌝ }
     ensures { λ r. ⌜ r ≡ number16 (now (image .entry)) (268 + 2 * state) ⌝ }
@@ -81,7 +82,7 @@ fn label_in(image: &[u8], state: u16) -> u16
     words::get16(image, 268 + 2 * (state as usize))
 }
 
-// The label of a state in an image that is opened.
+// That number in an image that is opened.
 pub fn label_of<'a>(v: View<'a>, state: u16) -> u16
     requires { ⌜ Opened (now (v .bytes)) (v .n) (v .m) × (state < v .n) ⌝ }
     ensures { λ r. ⌜ r ≡ number16 (now (v .entry .bytes)) (268 + 2 * state) ⌝ }

@@ -8,7 +8,7 @@ use Rattle.paper.specs.Table.{states, tableGrounds}
 use Rattle.paper.specs.Scan.{walkOf}
 use Rattle.paper.specs.Operations.{judgeTable, walkGrounds, scanning, walk}
 use Rattle.paper.proofs.Refusals.{numbered}
-use Rattle.running.proofs.Verdict.{outcome-done}
+use Rattle.running.proofs.Verdict.{later-none, outcome-done}
 
 -- No ground of a table has the number 0.
 pub table-numbered : (t : List ℕ) → numbered (tableGrounds t) ≡ true
@@ -19,4 +19,5 @@ table-numbered t = refl
 pub walk-done : (t : List ℕ) (s : ℕ) (payload room : List ℕ) → judgeTable t ≡ 0 → s < states t → length payload ≤ 65536
     → walk t s payload room ≡ scanning 0 (walkOf t s payload (length room)) room
 unfolding walk walkGrounds judgeTable
-walk-done t s payload room = outcome-done (tableGrounds t) (table-numbered t) (states t) s payload (walkOf t s payload (length room)) room
+walk-done t s payload room e h l =
+    outcome-done (tableGrounds t) (table-numbered t) (states t) s payload (walkOf t s payload (length room)) room e (later-none (states t) s payload h l)

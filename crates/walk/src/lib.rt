@@ -2,34 +2,38 @@
 ghost use mathlib.Core.Path.{_≡_};
 ghost use Prim.Native.Nat.{_≤_, _<_};
 ghost use lib.ListN.{length};
+ghost use Rattle.paper.specs.Words.{number16};
 ghost use Rattle.paper.specs.Table.{states, classes};
 ghost use Rattle.paper.specs.Scan.{walkOf};
 ghost use Rattle.paper.specs.Operations.{scanning};
 ghost use Rattle.paper.specs.Promises.{IsScanned, Walks};
 ghost use Rattle.facts.proofs.TableFacts.{AcceptedTable};
 
-// The walk of an accepted table. It stops before the first byte whose report has no room.
+// The walk of an accepted table. It stops before the first byte whose reports have no room.
 fn walk_accepted(
     table: &[u8],
     n: usize,
     k: usize,
+    word: u16,
     state: usize,
     payload: &[u8],
     room: &mut [u8],
 ) -> answers::Scanned
-    requires { ⌜ AcceptedTable (now table) × (n ≡ states (now table)) × (k ≡ classes (now table)) × (state < n) × (length (now payload) ≤ 65536) ⌝ }
+    requires { ⌜ AcceptedTable (now table) × (n ≡ states (now table)) × (k ≡ classes (now table)) × (word ≡ number16 (now table) 0) × (state < n) × (length (now payload) ≤ 65536) ⌝ }
     ensures { λ r. ⌜ IsScanned (scanning 0 (walkOf (now (table .entry)) state (now (payload .entry)) (length (now (room .entry)))) (now (room .entry))) (r .refused) (r .taken) (r .state) (r .reports) (r .hops) (now (room .exit)) ⌝ }
 {
     let most = room.len() / 6;
+    let firsts = labels::firsts_of(table, 262, n, word);
     let mut s = state;
     let mut reports = 0;
     let mut i = 0;
     while i < payload.len() {
         let class = words::wide(table[6 + words::wide(payload[i]) as usize]) as usize;
         let next = table::next_state(table, n, k, s, class) as usize;
-        let label = words::get16(table, 262 + 2 * next);
-        if label != 0 {
-            if most <= reports {
+        let tag = words::get16(table, 262 + 2 * next);
+        if tag != 0 {
+            let many = labels::how_many(tag, word);
+            if most < reports + many {
                 return answers::Scanned {
                     refused: 0,
                     taken: i as u32,
@@ -38,8 +42,9 @@ fn walk_accepted(
                     hops: 0,
                 };
             }
-            running::put_report(room, 6 * reports, i as u32, label);
-            reports += 1;
+            let first = firsts[next];
+            running::put_tagged(room, 6 * reports, i as u32, table, 262, first, tag, word);
+            reports += many;
         }
         s = next;
         i += 1;
@@ -61,13 +66,12 @@ pub fn walk(table: &[u8], state: u32, payload: &[u8], room: &mut [u8]) -> answer
     if number != 0 {
         return answers::not_scanned(number);
     }
-    let n = words::get16(table, 0) as usize;
-    if n <= state as usize {
-        return answers::not_scanned(14);
-    }
-    if 65536 < payload.len() {
-        return answers::not_scanned(15);
+    let word = words::get16(table, 0);
+    let n = labels::states_of(word);
+    let later = running::ground_of(n, state, payload);
+    if later != 0 {
+        return answers::not_scanned(later);
     }
     let k = words::get16(table, 2) as usize;
-    walk_accepted(table, n, k, state as usize, payload, room)
+    walk_accepted(table, n, k, word, state as usize, payload, room)
 }

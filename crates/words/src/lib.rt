@@ -1,6 +1,6 @@
-// Little-endian numbers in lent bytes, read and written, bytes copied, and the check word.
+// Little-endian numbers in lent bytes, read and written, the larger of two, bytes copied, and the check word.
 ghost use mathlib.Core.Path.{_≡_};
-ghost use Prim.Native.Nat.{_+_, _%_, _≤_, _<_, _^_};
+ghost use Prim.Native.Nat.{_+_, _%_, _≤_, _<_, _^_, max};
 ghost use lib.ListN.{length, take, drop};
 ghost use Rattle.paper.specs.Words.{number16, number32, bytes16, bytes32, words, checkWord};
 ghost use Rattle.words.specs.Placed.{placed};
@@ -46,6 +46,13 @@ pub fn put32(room: &mut [u8], at: usize, x: u32)
     put16(room, at + 2, (x / 65536) as u16);
 }
 
+// The larger of two numbers.
+pub fn larger(a: u16, b: u16) -> u16
+    ensures { λ r. ⌜ r ≡ max a b ⌝ }
+{
+    if a < b { b } else { a }
+}
+
 // Copies `count` bytes, from `start` on, to `at`.
 pub fn copy(from: &[u8], start: usize, count: usize, room: &mut [u8], at: usize)
     requires { ⌜ (start + count ≤ length (now from)) × (at + count ≤ length (now room)) ⌝ }
@@ -63,11 +70,12 @@ pub fn check_word(b: &[u8]) -> u16
     requires { ⌜ (length (now b) % 2 ≡ 0) × (length (now b) < 2 ^ 32) ⌝ }
     ensures { λ r. ⌜ r ≡ checkWord (words (now (b .entry))) ⌝ }
 {
+    let count = b.len() / 2;
     let mut sum: u16 = 0;
     let mut i = 0;
-    while i < b.len() {
-        let word = get16(b, i);
-        i += 2;
+    while i < count {
+        let word = get16(b, 2 * i);
+        i += 1;
         sum = std::num::wrapping_add_u16(sum, word);
         if sum < word {
             sum += 1;

@@ -1,9 +1,11 @@
 -- Each ground in its order: 18, the table's, 16; past them the image of the defaults of the order.
-use mathlib.Core.Path.{_≡_, sym, _∙_}
+use mathlib.Core.Path.{_≡_, sym, ap, _∙_}
 use Prim.Native.Nat.{_≤_}
 use mathlib.Core.Bool.{false}
 use denote.Ref.{now}
 use native.Mathlib.Omega.{arith}
+use Rattle.paper.specs.Labels.{statesOf}
+use Rattle.paper.specs.Table.{states}
 use Rattle.paper.specs.Operations.{judgeTable}
 use Rattle.facts.proofs.TableFacts.{accepted-table}
 use Rattle.chains.specs.Orders.{InRange}
@@ -48,50 +50,55 @@ returns-2 c =
 get16-requires : tie.Need-get16-requires
 get16-requires c κs = omega (arith, accepted-table (now (begun (c .before) .args .table)) (accepted c) .long)
 
-cast-n : tie.Need-cast-n
-cast-n c = omega arith
+states-of-requires : tie.Need-states-of-requires
+states-of-requires c κs = tt
+
+-- n is the number of the table's states.
+counted : (c : tie.After-states-of) → c .states-of .result ≡ states (now (begun (c .before .before .before) .args .table))
+counted c = c .states-of .ensures ∙ ap statesOf (c .before .get16 .ensures)
 
 get16-requires-2 : tie.Need-get16-requires-2
-get16-requires-2 c κs = let d = c .before in omega (arith, accepted-table (now (begun (d .before) .args .table)) (accepted d) .long)
+get16-requires-2 c κs = let d = c .before .before in omega (arith, accepted-table (now (begun (d .before) .args .table)) (accepted d) .long)
 
 cast-k : tie.Need-cast-k
 cast-k c = omega arith
 
 cast-defaults-of : tie.Need-cast-defaults-of
-cast-defaults-of c = omega (arith, known (c .before .before .before))
+cast-defaults-of c = omega (arith, known (c .before .before .before .before))
 
 defaults-of-requires : tie.Need-defaults-of-requires
 defaults-of-requires c κs =
-    let d = c .before .before in
-    (accepted-table (now (begun (d .before) .args .table)) (accepted d), c .before .get16 .ensures, c .get162 .ensures)
+    let d = c .before .before .before in
+    (accepted-table (now (begun (d .before) .args .table)) (accepted d), counted (c .before), c .get162 .ensures)
 
 -- The defaults are in range.
-range : (c : tie.After-defaults-of) → InRange (c .before .before .get16 .result) (c .defaults-of .result)
+range : (c : tie.After-defaults-of) → InRange (c .before .before .states-of .result) (c .defaults-of .result)
 range c =
-    let a = begun (c .before .before .before .before) .args in
-    chosen-range (now (a .table)) (a .order) (a .bound) (c .before .before .get16 .result) (c .defaults-of .result) (c .before .before .get16 .ensures) (c .defaults-of .ensures)
+    let read = c .before .before in
+    let a = begun (read .before .before .before) .args in
+    chosen-range (now (a .table)) (a .order) (a .bound) (read .states-of .result) (c .defaults-of .result) (counted read) (c .defaults-of .ensures)
 
 -- No chain of them is endless.
 ends : (c : tie.After-order-of) → c .order-of .result .endless ≡ false
 ends c =
     let chosen = c .before .before in
     let read = chosen .before .before in
-    let a = begun (read .before .before) .args in
-    c .order-of .ensures .0 ∙ chosen-ends (now (a .table)) (a .order) (a .bound) (read .get16 .result) (chosen .defaults-of .result) (read .get16 .ensures) (chosen .defaults-of .ensures) (accepted (read .before))
+    let a = begun (read .before .before .before) .args in
+    c .order-of .ensures .0 ∙ chosen-ends (now (a .table)) (a .order) (a .bound) (read .states-of .result) (chosen .defaults-of .result) (counted read) (chosen .defaults-of .ensures) (accepted (read .before .before))
 
 order-of-requires : tie.Need-order-of-requires
 order-of-requires c κs =
     let read = c .before .before .before in
-    let d = read .before in
-    (omega (arith, read .get16 .ensures, accepted-table (now (begun (d .before) .args .table)) (accepted d) .few-states), range (c .before))
+    let d = read .before .before in
+    (omega (arith, counted read, accepted-table (now (begun (d .before) .args .table)) (accepted d) .few-states), range (c .before))
 
 image-into-requires : tie.Need-image-into-requires
 image-into-requires c κs =
     let order = c .before .before .before .before in
     let chosen = order .before .before in
     let read = chosen .before .before in
-    let a = begun (read .before .before) .args in
-    list-ordered (accepted-table (now (a .table)) (accepted (read .before))) (read .get16 .ensures) (chosen .before .get162 .ensures) (range chosen) (order .order-of .ensures .1 (ends order))
+    let a = begun (read .before .before .before) .args in
+    list-ordered (accepted-table (now (a .table)) (accepted (read .before .before))) (counted read) (chosen .before .get162 .ensures) (range chosen) (order .order-of .ensures .1 (ends order))
 
 same-length : tie.Need-same-length
 same-length c = c .before .room .given
@@ -102,8 +109,8 @@ returns-3 c =
     let order = image .before .before .before .before .before in
     let chosen = order .before .before in
     let read = chosen .before .before in
-    let a = begun (read .before .before) .args in
-    compact-fills (now (a .table)) (a .order) (a .bound) (now (a .room)) _ _ (known (read .before .before)) (accepted (read .before)) (read .get16 .result) (chosen .defaults-of .result) (read .get16 .ensures) (chosen .defaults-of .ensures)
+    let a = begun (read .before .before .before) .args in
+    compact-fills (now (a .table)) (a .order) (a .bound) (now (a .room)) _ _ (known (read .before .before .before)) (accepted (read .before .before)) (read .states-of .result) (chosen .defaults-of .result) (counted read) (chosen .defaults-of .ensures)
     _ (image .image-into .ensures)
 
 pub compact-spec : {M : Type 1} → statement M
@@ -116,7 +123,7 @@ compact-spec =
     not-built-requires-2
     returns-2
     get16-requires
-    cast-n
+    states-of-requires
     get16-requires-2
     cast-k
     cast-defaults-of

@@ -1,8 +1,10 @@
 -- Each ground in its order: the table's, 8, 11, 16; past them the image of the defaults listed.
-use mathlib.Core.Path.{_≡_, sym, _∙_}
+use mathlib.Core.Path.{_≡_, sym, ap, _∙_}
 use mathlib.Core.Bool.{false}
 use denote.Ref.{now}
 use native.Mathlib.Omega.{arith}
+use Rattle.paper.specs.Labels.{statesOf}
+use Rattle.paper.specs.Table.{states}
 use Rattle.paper.specs.Operations.{judgeTable}
 use Rattle.facts.proofs.TableFacts.{accepted-table}
 use Rattle.chains.specs.Orders.{InRange}
@@ -36,11 +38,15 @@ returns c =
 get16-requires : tie.Need-get16-requires
 get16-requires c κs = omega (arith, accepted-table (now (begun (c .before) .args .table)) (accepted c) .long)
 
-cast-n : tie.Need-cast-n
-cast-n c = omega arith
+states-of-requires : tie.Need-states-of-requires
+states-of-requires c κs = tt
+
+-- n is the number of the table's states.
+counted : (c : tie.After-states-of) → c .states-of .result ≡ states (now (begun (c .before .before .before) .args .table))
+counted c = c .states-of .ensures ∙ ap statesOf (c .before .get16 .ensures)
 
 get16-requires-2 : tie.Need-get16-requires-2
-get16-requires-2 c κs = let d = c .before in omega (arith, accepted-table (now (begun (d .before) .args .table)) (accepted d) .long)
+get16-requires-2 c κs = let d = c .before .before in omega (arith, accepted-table (now (begun (d .before) .args .table)) (accepted d) .long)
 
 cast-k : tie.Need-cast-k
 cast-k c = omega arith
@@ -48,8 +54,8 @@ cast-k c = omega arith
 list-bad-requires : tie.Need-list-bad-requires
 list-bad-requires c κs =
     let read = c .before in
-    let d = read .before in
-    omega (arith, read .get16 .ensures, accepted-table (now (begun (d .before) .args .table)) (accepted d) .few-states)
+    let d = read .before .before in
+    omega (arith, counted read, accepted-table (now (begun (d .before) .args .table)) (accepted d) .few-states)
 
 not-built-requires-2 : tie.Need-not-built-requires-2
 not-built-requires-2 c κs = tt
@@ -58,33 +64,33 @@ returns-2 : tie.Need-returns-2
 returns-2 c =
     let listed = c .before .before in
     let read = listed .before .before in
-    let a = begun (read .before .before) .args in
-    write-bad (now (a .table)) (now (a .defaults)) (now (a .room)) _ _ (accepted (read .before)) (read .get16 .result) (read .get16 .ensures)
+    let a = begun (read .before .before .before) .args in
+    write-bad (now (a .table)) (now (a .defaults)) (now (a .room)) _ _ (accepted (read .before .before)) (read .states-of .result) (counted read)
     (sym (listed .list-bad .ensures) ∙ c .before .if2 .taken) (c .not-built2 .ensures .0) (c .not-built2 .ensures .1)
 
 -- Past ground 8 the list is right.
-right : (c : tie.Else2) → let read = c .before .before .before in listBad (now (begun (read .before .before) .args .defaults)) (read .get16 .result) ≡ false
+right : (c : tie.Else2) → let read = c .before .before .before in listBad (now (begun (read .before .before .before) .args .defaults)) (read .states-of .result) ≡ false
 right c = sym (c .before .list-bad .ensures) ∙ c .if2 .left
 
 values-of-requires : tie.Need-values-of-requires
 values-of-requires c κs =
     let read = c .before .before .before in
-    let d = read .before in (
-      omega (arith, read .get16 .ensures, accepted-table (now (begun (d .before) .args .table)) (accepted d) .few-states),
-      list-long (now (begun (d .before) .args .defaults)) (read .get16 .result) (right c),
+    let d = read .before .before in (
+      omega (arith, counted read, accepted-table (now (begun (d .before) .args .table)) (accepted d) .few-states),
+      list-long (now (begun (d .before) .args .defaults)) (read .states-of .result) (right c),
     )
 
 -- Its values are in range.
-range : (c : tie.After-values-of) → InRange (c .before .before .before .before .get16 .result) (c .values-of .result)
+range : (c : tie.After-values-of) → InRange (c .before .before .before .before .states-of .result) (c .values-of .result)
 range c =
     let read = c .before .before .before .before in
-    values-range (now (begun (read .before .before) .args .defaults)) (read .get16 .result) (c .values-of .result) (right (c .before)) (c .values-of .ensures)
+    values-range (now (begun (read .before .before .before) .args .defaults)) (read .states-of .result) (c .values-of .result) (right (c .before)) (c .values-of .ensures)
 
 order-of-requires : tie.Need-order-of-requires
 order-of-requires c κs =
     let read = c .before .before .before .before .before in
-    let d = read .before in
-    (omega (arith, read .get16 .ensures, accepted-table (now (begun (d .before) .args .table)) (accepted d) .few-states), range (c .before))
+    let d = read .before .before in
+    (omega (arith, counted read, accepted-table (now (begun (d .before) .args .table)) (accepted d) .few-states), range (c .before))
 
 not-built-requires-3 : tie.Need-not-built-requires-3
 not-built-requires-3 c κs = tt
@@ -94,8 +100,8 @@ returns-3 c =
     let order = c .before .before in
     let values = order .before .before in
     let read = values .before .before .before .before in
-    let a = begun (read .before .before) .args in
-    write-endless (now (a .table)) (now (a .defaults)) (now (a .room)) _ _ (accepted (read .before)) (read .get16 .result) (read .get16 .ensures)
+    let a = begun (read .before .before .before) .args in
+    write-endless (now (a .table)) (now (a .defaults)) (now (a .room)) _ _ (accepted (read .before .before)) (read .states-of .result) (counted read)
     (right (values .before)) (values .values-of .result) (values .values-of .ensures)
     (sym (order .order-of .ensures .0) ∙ c .before .if3 .taken) (c .not-built3 .ensures .0) (c .not-built3 .ensures .1)
 
@@ -105,8 +111,8 @@ image-into-requires c κs =
     let order = tested .before in
     let values = order .before .before in
     let read = values .before .before .before .before in
-    let a = begun (read .before .before) .args in
-    list-ordered (accepted-table (now (a .table)) (accepted (read .before))) (read .get16 .ensures) (values .before .before .before .get162 .ensures) (range values) (order .order-of .ensures .1 (tested .if3 .left))
+    let a = begun (read .before .before .before) .args in
+    list-ordered (accepted-table (now (a .table)) (accepted (read .before .before))) (counted read) (values .before .before .before .get162 .ensures) (range values) (order .order-of .ensures .1 (tested .if3 .left))
 
 same-length : tie.Need-same-length
 same-length c = c .before .room .given
@@ -118,8 +124,8 @@ returns-4 c =
     let order = tested .before in
     let values = order .before .before in
     let read = values .before .before .before .before in
-    let a = begun (read .before .before) .args in
-    write-fills (now (a .table)) (now (a .defaults)) (now (a .room)) _ _ (accepted (read .before)) (read .get16 .result) (read .get16 .ensures)
+    let a = begun (read .before .before .before) .args in
+    write-fills (now (a .table)) (now (a .defaults)) (now (a .room)) _ _ (accepted (read .before .before)) (read .states-of .result) (counted read)
     (right (values .before)) (values .values-of .result) (values .values-of .ensures) _
     (sym (order .order-of .ensures .0) ∙ tested .if3 .left) (image .image-into .ensures)
 
@@ -131,7 +137,7 @@ write-spec =
     not-built-requires
     returns
     get16-requires
-    cast-n
+    states-of-requires
     get16-requires-2
     cast-k
     list-bad-requires

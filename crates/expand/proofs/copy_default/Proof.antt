@@ -2,13 +2,14 @@
 use denote.Ref.{now}
 use mathlib.Core.Path.{_≡_}
 use mathlib.Core.Option.{some}
-use Prim.Native.Nat.{ℕ, _<_}
+use Prim.Native.Nat.{ℕ}
 use native.Mathlib.Omega.{arith}
 use lib.ListN.{getD}
 use borrow.Author.Needs.{needs}
 use Rattle.paper.specs.Image.{defaultFrom}
 use Rattle.chains.proofs.Defaults.{from-some}
-use Rattle.expand.proofs.Rows.{apart-rows, row-in, root-inherited, copied-inherited}
+use Rattle.expand.specs.Rows.{RowIn}
+use Rattle.expand.proofs.Rows.{apart-rows, root-inherited, copied-inherited}
 use Rattle.expand.proofs.copy_default.Statement.{statement}
 use Rattle.expand.proofs.copy_default.Tie as tie
 
@@ -20,9 +21,9 @@ number c = let start = c .before .before .before in getD (now (start .args .def)
 named : (c : tie.Else1) → defaultFrom (number c) ≡ some (number c)
 named c = from-some (number c) (c .if1 .left)
 
--- It is another state.
-other : (c : tie.Else1) → (number c < c .before .before .before .args .n) × (¬ (number c ≡ c .before .before .before .args .s))
-other c = c .before .before .before .pre .4 (number c) (named c)
+-- It is another state, whose row stands in the room.
+other : (c : tie.Else1) → let a = c .before .before .before .args in RowIn (a .first) (a .k) (now (a .room)) (number c) × (¬ (number c ≡ a .s))
+other c = c .before .before .before .pre .3 (number c) (named c)
 
 mul-d : tie.Need-mul-d
 mul-d c = search needs
@@ -31,13 +32,13 @@ element-copy-out-d : tie.Need-element-copy-out-d
 element-copy-out-d c = search needs
 
 returns : tie.Need-returns
-returns c = let a = c .before .before .before .args in root-inherited (now (a .def)) (now (a .room)) (a .n) (a .k) (a .s) (c .if1 .taken)
+returns c = let a = c .before .before .before .args in root-inherited (now (a .def)) (now (a .room)) (a .first) (a .k) (a .s) (c .if1 .taken)
 
 cast-row-at : tie.Need-cast-row-at
-cast-row-at c = omega (arith, other c .0)
+cast-row-at c = omega (arith, other c .0 .0)
 
 row-at-requires : tie.Need-row-at-requires
-row-at-requires c κs = (omega arith, omega arith, omega (arith, other c .0))
+row-at-requires c κs = (omega arith, omega arith, omega (arith, other c .0 .0))
 
 row-at-requires-2 : tie.Need-row-at-requires-2
 row-at-requires-2 c κs = search needs
@@ -49,9 +50,9 @@ copy-row-requires c κs =
     let a = start .args in
     let from = c .before .before .row-at .ensures in
     let to = c .before .row-at2 .ensures in
-    let from-in = row-in (a .n) (a .k) (number left) (other left .0) in
-    let to-in = row-in (a .n) (a .k) (a .s) (start .pre .2) in
-    (omega arith, omega arith, λ i j hi hj e. apart-rows (a .n) (a .k) (number left) (a .s) (other left .1) i j hi hj (omega arith))
+    let from-in = other left .0 .1 in
+    let to-in = start .pre .2 .1 in
+    (omega arith, omega arith, λ i j hi hj e. apart-rows (a .first) (a .k) (number left) (a .s) (other left .1) i j hi hj (omega arith))
 
 same-length : tie.Need-same-length
 same-length c = search needs

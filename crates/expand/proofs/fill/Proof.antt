@@ -18,20 +18,22 @@ cast-m c = search needs
 begins-of-requires : tie.Need-begins-of-requires
 begins-of-requires c κs =
     let start = c .before .before .before in
-    (accepted-laid (now (start .args .image)) (start .pre .0), start .pre .1, c .get32 .ensures)
+    (accepted-laid (now (start .args .image)) (start .pre .0), start .pre .2, c .get32 .ensures)
 
 defaults-of-requires : tie.Need-defaults-of-requires
 defaults-of-requires c κs =
     let start = c .before .before .before .before in
-    passed-as (now (start .args .image)) (start .pre .0) (start .args .n) _ (start .pre .1) (c .before .get32 .ensures)
+    passed-as (now (start .args .image)) (start .pre .0) (start .args .n) _ (start .pre .2) (c .before .get32 .ensures)
 
 order-of-requires : tie.Need-order-of-requires
 order-of-requires c κs =
     let start = c .before .before .before .before .before .before in
-    (omega (arith, start .pre .0 .few-states, start .pre .1), kept-range (now (start .args .image)) (start .pre .0) (c .before .defaults-of .ensures))
+    (omega (arith, start .pre .0 .few-states, start .pre .2), kept-range (now (start .args .image)) (start .pre .0) (c .before .defaults-of .ensures))
 
 put-front-requires : tie.Need-put-front-requires
-put-front-requires c κs = search needs
+put-front-requires c κs =
+    let start = c .before .before .before .before .before .before .before .before in
+    (omega (arith, start .pre .1), omega (arith, start .pre .0 .long, start .pre .1), omega (arith, start .pre .4))
 
 put-rows-requires : tie.Need-put-rows-requires
 put-rows-requires c κs =
@@ -44,12 +46,13 @@ put-rows-requires c κs =
     let ends = kept-ends (now (start .args .image)) (start .pre .0) (read .defaults-of .ensures) (order .result .endless) (order .ensures .0) in (
       record {
         accepted = start .pre .0;
-        states-are = start .pre .1;
-        classes-are = start .pre .2;
+        first-is = start .pre .1;
+        classes-are = start .pre .3;
         begin = begun .begins-of .ensures;
-        falls = read .defaults-of .ensures;
-        fits = omega (arith, fronted .put-front .ensures .kept .long, start .pre .3);
+        falls = rw (start .pre .2) at (read .defaults-of .ensures);
+        fits = omega (arith, fronted .put-front .ensures .kept .long, rw (start .pre .2) at (start .pre .4));
       },
+      start .pre .2,
       order .ensures .1 ends .1,
     )
 
@@ -62,7 +65,7 @@ returns c =
     let fronted = set .before .before .before .before .before .before .before .before in
     let start = fronted .before .before .before .before .before .before .before .before .before in
     let (rows, kept) = set .put-rows .ensures in
-    filled-table (start .pre .1) (start .pre .2) (start .pre .3) (fronted .put-front .ensures) kept rows (fits-bytes (set .put-rows .last .1 .1 .1 .1 .1 .1 .0) (c .slice-known3 .given))
+    filled-table (start .pre .1) (start .pre .2) (start .pre .3) (start .pre .4) (fronted .put-front .ensures) kept rows (fits-bytes (set .put-rows .last .1 .1 .1 .1 .1 .1 .1 .0) (c .slice-known3 .given))
 
 pub fill-spec : {M : Type 1} → statement M
 fill-spec =

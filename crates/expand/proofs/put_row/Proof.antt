@@ -6,7 +6,7 @@ use borrow.Author.Needs.{needs}
 use Rattle.image.proofs.Accepted.{accepted-laid, part-row}
 use Rattle.expand.specs.Rows.{rowAt}
 use Rattle.expand.proofs.Kept.{kept-then}
-use Rattle.expand.proofs.Rows.{row-in, setting-small, state-in, default-other}
+use Rattle.expand.proofs.Rows.{setting-small, row-in, default-other}
 use Rattle.expand.proofs.Standing.{row-stands}
 use Rattle.expand.proofs.put_row.Statement.{statement}
 use Rattle.expand.proofs.put_row.Tie as tie
@@ -15,17 +15,22 @@ copy-default-requires : tie.Need-copy-default-requires
 copy-default-requires c κs =
     let start = c .before .before .before in
     let S = start .pre .0 in
+    let s = start .args .s in
     let small = setting-small S in
-    (small .0, small .1, start .pre .1, S .fits, default-other S (start .args .s) (start .pre .1))
+    (small .0, small .1, row-in S s (start .pre .1), λ d e. let (below, other) = default-other S s (start .pre .1) d e in (row-in S d below, other))
 
 entries-of-requires : tie.Need-entries-of-requires
 entries-of-requires c κs =
     let start = c .before .before .before .before .before .before in
     let S = start .pre .0 in
-    (accepted-laid (now (start .args .image)) (S .accepted), S .begin, state-in S (start .args .s) (start .pre .1))
+    (accepted-laid (now (start .args .image)) (S .accepted), S .begin, start .pre .1)
 
 row-at-requires : tie.Need-row-at-requires
-row-at-requires c κs = search needs
+row-at-requires c κs =
+    let start = c .before .before .before .before .before .before .before .before in
+    let S = start .pre .0 in
+    let small = setting-small S in
+    (small .0, small .1, omega (arith, row-in S (start .args .s) (start .pre .1) .0))
 
 put-entries-requires : tie.Need-put-entries-requires
 put-entries-requires c κs =
@@ -34,8 +39,8 @@ put-entries-requires c κs =
     let start = copied .before .before .before .before in
     let S = start .pre .0 in
     let a = start .args in (
-      rw (found .entries-of .ensures, S .classes-are) (part-row (now (a .image)) (S .accepted) (a .s) (state-in S (a .s) (start .pre .1))),
-      omega (arith, c .row-at .ensures, copied .copy-default .ensures .kept .long, row-in (a .n) (a .k) (a .s) (start .pre .1), S .fits),
+      rw (found .entries-of .ensures, S .classes-are) (part-row (now (a .image)) (S .accepted) (a .s) (start .pre .1)),
+      omega (arith, c .row-at .ensures, copied .copy-default .ensures .kept .long, row-in S (a .s) (start .pre .1) .1),
     )
 
 same-length : tie.Need-same-length
@@ -50,7 +55,7 @@ returns c =
     let a = start .args in
     let I = copied .copy-default .ensures in
     let O = rw (called .before .row-at .ensures) at (called .put-entries .ensures) in
-    let at = rowAt (a .n) (a .k) (a .s) in (
+    let at = rowAt (a .first) (a .k) (a .s) in (
       row-stands (start .pre .0) (a .s) (start .pre .1) (start .pre .2) I (found .entries-of .ensures) O,
       kept-then at (at + 2 * a .k) (I .kept) (O .kept) (omega arith) (omega arith) (omega arith) (omega arith),
     )

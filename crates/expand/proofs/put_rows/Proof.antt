@@ -1,22 +1,26 @@
 -- The loop's invariant: the rows of the states at the places passed stand, and only rows were written.
 use denote.Ref.{now}
 use mathlib.Core.Path.{_≡_, refl}
-use Prim.Native.Nat.{ℕ, _+_, _*_, _-_, _≤_, _<_}
+use Prim.Native.Nat.{ℕ, _-_, _≤_, _<_}
 use native.Mathlib.Omega.{arith}
 use lib.ListN.{getD}
-use Rattle.paper.specs.Table.{tableLength}
 use Rattle.expand.specs.Kept.{Kept}
+use Rattle.expand.specs.Rows.{rowAt}
 use Rattle.expand.proofs.Kept.{kept-same, kept-then}
-use Rattle.expand.proofs.Rows.{row-in, setting-small, setting-kept}
+use Rattle.expand.proofs.Rows.{row-ends, setting-kept}
 use Rattle.expand.proofs.Standing.{Standing, standing-more}
 use Rattle.expand.proofs.put_rows.Statement.{statement}
 use Rattle.expand.proofs.put_rows.Tie as tie
 
 abbrev Inv-loop : tie.InvT-loop
-Inv-loop image n k begins def order room₀ i₀ room i = (i ≤ n) × Kept room₀ room (262 + 2 * n) (tableLength n k) × Standing image n k room order i
+Inv-loop image first n k begins def order room₀ i₀ room i = (i ≤ n) × Kept room₀ room first (rowAt first k n) × Standing image first k room order i
 
 abbrev μ-loop : tie.MeasureT-loop
-μ-loop image n k begins def order room₀ i₀ room i = n - i
+μ-loop image first n k begins def order room₀ i₀ room i = n - i
+
+-- There are at most 512 states.
+few : (c : tie.Start Inv-loop μ-loop) → c .args .n ≤ 512
+few c = omega (arith, c .pre .0 .accepted .few-states, c .pre .1)
 
 -- The state at the place.
 abbrev state : tie.In-loop Inv-loop μ-loop → ℕ
@@ -24,19 +28,19 @@ state c = getD (now (c .before .before .before .before .args .order)) (c .before
 
 -- It is a state.
 state-below : (c : tie.In-loop Inv-loop μ-loop) → state c < c .before .before .before .before .args .n
-state-below c = c .before .before .before .before .pre .1 .below (c .before .loop .i) (omega arith)
+state-below c = c .before .before .before .before .pre .2 .below (c .before .loop .i) (omega arith)
 
 loop-holds : tie.Need-loop-holds Inv-loop μ-loop
 loop-holds c = (omega arith, kept-same _ _ _, λ s (j, h, e). absurd (omega arith))
 
 mul-s : tie.Need-mul-s Inv-loop μ-loop
-mul-s c = omega (arith, setting-small (c .before .before .before .before .pre .0) .0)
+mul-s c = omega (arith, few (c .before .before .before .before))
 
 element-copy-out-s : tie.Need-element-copy-out-s Inv-loop μ-loop
-element-copy-out-s c = omega (arith, setting-small (c .before .before .before .before .pre .0) .0)
+element-copy-out-s c = omega (arith, few (c .before .before .before .before))
 
 cast-s : tie.Need-cast-s Inv-loop μ-loop
-cast-s c = omega (arith, state-below (c .before), setting-small (c .before .before .before .before .before .pre .0) .0)
+cast-s c = omega (arith, state-below (c .before), few (c .before .before .before .before .before))
 
 put-row-requires : tie.Need-put-row-requires Inv-loop μ-loop
 put-row-requires c κs =
@@ -44,8 +48,8 @@ put-row-requires c κs =
     let l = turn .before .loop in
     let start = turn .before .before .before .before in (
       setting-kept (start .pre .0) (l .room) (l .inv .1 .long),
-      state-below turn,
-      λ d e. l .inv .2 d (start .pre .1 .after (l .i) d (omega arith) e),
+      omega (arith, state-below turn, start .pre .1),
+      λ d e. l .inv .2 d (start .pre .2 .after (l .i) d (omega arith) e),
     )
 
 add-i : tie.Need-add-i Inv-loop μ-loop
@@ -62,8 +66,8 @@ loop-again c =
     let a = turn .before .before .before .before .args in
     let (stands, kept) = called .put-row .ensures in (
       omega arith,
-      kept-then (262 + 2 * a .n) (tableLength (a .n) (a .k)) (l .inv .1) kept (omega arith) (omega arith) (omega arith) (row-in (a .n) (a .k) (state turn) (state-below turn)),
-      standing-more (now (a .image)) (a .n) (a .k) (state turn) kept (now (a .order)) (l .i) (l .inv .2) refl stands,
+      kept-then (a .first) (rowAt (a .first) (a .k) (a .n)) (l .inv .1) kept (omega arith) (omega arith) (omega arith) (row-ends (a .first) (a .n) (a .k) (state turn) (state-below turn)),
+      standing-more (now (a .image)) (a .first) (a .k) (state turn) kept (now (a .order)) (l .i) (l .inv .2) refl stands,
     )
 
 same-length : tie.Need-same-length Inv-loop μ-loop
@@ -74,7 +78,7 @@ returns c =
     let l = c .before .loop in
     let start = c .before .before .before .before in
     let all : l .i ≡ start .args .n = omega arith in
-    (λ s h. l .inv .2 s (rw all (start .pre .1 .stands s h)), l .inv .1)
+    (λ s h. l .inv .2 s (rw all (start .pre .2 .stands s h)), l .inv .1)
 
 pub put-rows-spec : {M : Type 1} → statement M
 put-rows-spec =

@@ -14,23 +14,17 @@ small c =
     mul-le-mul few narrow
 
 mul-result : tie.Need-mul-result
-mul-result c = search needs
-
-add-result : tie.Need-add-result
-add-result c = search needs
+mul-result c = omega (arith, small c)
 
 mul-result-2 : tie.Need-mul-result-2
 mul-result-2 c = omega (arith, small c)
 
-mul-result-3 : tie.Need-mul-result-3
-mul-result-3 c = omega (arith, small c)
-
-add-result-2 : tie.Need-add-result-2
-add-result-2 c = omega (arith, small c)
+add-result : tie.Need-add-result
+add-result c = omega (arith, small c)
 
 returns : tie.Need-returns
 returns c = search needs
 
 pub row-at-spec : {M : Type 1} → statement M
 row-at-spec =
-    tie.close (tie.spec mul-result add-result mul-result-2 mul-result-3 add-result-2 returns)
+    tie.close (tie.spec mul-result mul-result-2 add-result returns)

@@ -156,17 +156,17 @@ module _ {M : Type 1} (𝓤 : URA M) (H : Heap 𝓤) (A : Atoms 𝓤) (W : Given
 
   -- What `take` ensures.
   abbrev Said : Run → ℕ → Type 0
-  Said r l = (r ≡ takenOf (now s) h n .run) × (l ≡ takenOf (now s) h n .label)
+  Said r l = (r ≡ takenOf (now s) h n .run) × (l ≡ takenOf (now s) h n .tag)
 
-  -- The running scan and the label as one answer.
+  -- The running scan and the tag as one answer.
   abbrev whole : Run → ℕ → Taken
-  whole r l = record { run = r; label = l }
+  whole r l = record { run = r; tag = l }
 
   -- Its machine value is one of its type.
   whole-is : (r : Run) (l : ℕ) → Is T.the-row r (T′.lowered r ∷ []) → l < 2 ^ 16 → Is K.the-row (whole r l) (K′.lowered (whole r l) ∷ [])
   whole-is r l is fits = LL.owes K.the-type K′.the-laws (whole r l) (is, ((refl, fits), tt))
 
-  -- With what `take` said of the local and the label, the end is reached.
+  -- With what `take` said of the local and the tag, the end is reached.
   exits : (r : Run) (l : ℕ) → Is T.the-row r (T′.lowered r ∷ []) → l < 2 ^ 16 → Said r l → ent 𝓤 (⋆ 𝓤 H A ((‵ (flft κ q) ⊛ (‵ (flft κ″ q″) ⊛ ‵ ftrue)) ∷ ‵ OwnB ∷ ‵ Own ∷ [])) (Post (K′.lowered (whole r l)))
   exits r l is fits e =
       qed W ((‵ (flft κ q) ⊛ (‵ (flft κ″ q″) ⊛ ‵ ftrue)) ∷ ‵ OwnB ∷ ‵ Own ∷ []) ∵
@@ -204,13 +204,13 @@ module _ {M : Type 1} (𝓤 : URA M) (H : Heap 𝓤) (A : Atoms 𝓤) (W : Given
         use1 W (later (some (λ (t : ℕ). ((‵ (flft (ν ∷ []) fullShare) ⊛ (‵ (flft κ q) ⊛ (‵ (flft κ″ q″) ⊛ ‵ ftrue))) ⊛ ‵ (u16 .own t (u ∷ []))) ⊛ raw (ensured 𝓤 H A take.ended (take.clauses 𝓤 H A at-mem run) (ν ∷ [], (κ, (κ″, tt))) (x l₇ δ, others) tt t)))) (id⊢ 𝓤 _) $ await ! tt $ pick ! (λ t.
         split ! $ move ! (1 ∷ []) $ use1 W (some (λ (zs : Run × (Unit {0} × (Unit {0} × (Unit {0} × (Unit {0} × (Unit {0} × Unit {0})))))). ‵ (lasts take.ended (ν ∷ [], (κ, (κ″, tt))) (x l₇ δ, others) zs) ⊛ raw (fact 𝓤 (Said (zs .0) t)))) (id⊢ 𝓤 _) $ pick ! (λ zs.
         split ! $ move ! (1 ∷ []) $ heard ! (Said (zs .0) t) (λ e. fsplit ! $ move ! (2 ∷ []) $ split ! $ move ! (1 ∷ []) $
-        -- [the label; the tokens; the last value; …; the lender's part; OwnB; the numbers; Own; _10; …]
+        -- [the tag; the tokens; the last value; …; the lender's part; OwnB; the numbers; Own; _10; …]
         peeks ! u16 (Is u16) (shows 𝓤 H A u16) t (u ∷ []) (λ is. land ! (from ! (stop !)) (init ! 12 refl (uint-lawful 𝓤 H A W w16 .typed t _ is .0)) $ rewrite ! 12 (λ (w : Val). ‵ (fat fullShare (tyInt w16) l₈ 0 w)) (ap only (is .0)) refl $
         -- The lifetime is ended, and the local comes back at its last value.
         move ! (1 ∷ []) $ split ! $ lft-end ! tt $ move ! (0 ∷ 5 ∷ 3 ∷ []) $ use3 W (later (‵ (partAt T.the-row fullShare (zs .0) l₇ 0))) (ref-back 𝓤 H A W T.the-row (ν ∷ []) δ (zs .0) l₇ 0) $ await ! tt $
         use1 W (‵ (fat fullShare T′.mir l₇ 0 (T′.lowered (zs .0))) ⊛ ‵ (T.the-row .own (zs .0) (T′.lowered (zs .0) ∷ []))) (unlie 𝓤 H A W l₇ (zs .0)) $ split ! $ move ! (1 ∷ []) $
         peeks ! T.the-row (Is T.the-row) (shows 𝓤 H A T.the-row) (zs .0) (T′.lowered (zs .0) ∷ []) (λ is′. move ! (1 ∷ 0 ∷ []) $
-        -- [_7; what the run owns; the tokens; the label; …; OwnB; the numbers; Own; _10; …; _0; …]
+        -- [_7; what the run owns; the tokens; the tag; …; OwnB; the numbers; Own; _10; …; _0; …]
         assigns ! (of-opd ! (load ! (from ! (stop !)) (look ! 0 refl))) (from ! (stop !)) (init ! 8 refl (LL.lawful T.the-type T′.the-laws 𝓤 H A W .typed (zs .0) _ is′ .0)) $
         assigns ! (agg ! (and-then ! (load ! (from ! (stop !)) (look ! 8 refl)) (and-then ! (load ! (from ! (stop !)) (look ! 12 refl)) (no-more !)))) (from ! (stop !)) (init ! 27 refl (LL.lawful K.the-type K′.the-laws 𝓤 H A W .typed (whole (zs .0) t) _ (whole-is (zs .0) t is′ (is .1)) .0)) $
         returns ! (look ! 27 refl) $ forget ! 0 refl $ forget ! 8 refl $ forget ! 10 refl $ forget ! 12 refl $ forget ! 15 refl $ forget ! 17 refl $ forget ! 19 refl $ forget ! 21 refl $ forget ! 23 refl $ forget ! 25 refl $ forget ! 27 refl $

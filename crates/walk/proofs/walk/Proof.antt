@@ -1,15 +1,16 @@
--- The table is judged first, then the state, then the payload; each refusal answers its number, and an accepted table is walked.
-use mathlib.Core.Path.{_≡_, sym, _∙_}
+-- The table is judged first, then the state and the payload; each refusal answers its number, and an accepted table is walked.
+use mathlib.Core.Path.{_≡_, sym, ap, _∙_}
 use mathlib.Core.List.{List}
-use Prim.Native.Nat.{ℕ, _<_}
+use Prim.Native.Nat.{ℕ, _≤_, _<_}
 use native.Mathlib.Omega.{arith}
 use lib.ListN.{length}
 use borrow.Author.Needs.{needs}
+use Rattle.paper.specs.Labels.{statesOf}
 use Rattle.paper.specs.Table.{states, tableGrounds}
 use Rattle.paper.specs.Scan.{Run, walkOf}
 use Rattle.paper.specs.Operations.{judgeTable, walkGrounds, walk}
 use Rattle.facts.proofs.TableFacts.{AcceptedTable, accepted-table}
-use Rattle.running.proofs.Verdict.{judge-refuses, state-refuses, payload-refuses}
+use Rattle.running.proofs.Verdict.{later, later-clear, judge-refuses, later-refuses}
 use Rattle.walk.proofs.Verdict.{table-numbered, walk-done}
 use Rattle.walk.proofs.walk.Statement.{statement}
 use Rattle.walk.proofs.walk.Tie as tie
@@ -34,9 +35,25 @@ judged c = sym (c .before .judge-table .ensures) ∙ c .if1 .left
 accepted : (c : tie.Else1) → AcceptedTable (bytes (c .before))
 accepted c = accepted-table (bytes (c .before)) (judged c)
 
--- The state is below n.
-inside : (c : tie.Else2) → let e = c .before .before .before in start e .args .state < states (bytes e)
-inside c = omega (arith, c .before .get16 .ensures, c .if2 .left)
+-- n is the table's.
+states-are : (c : tie.After-states-of) → c .states-of .result ≡ states (bytes (c .before .before .before))
+states-are c = c .states-of .ensures ∙ ap statesOf (c .before .get16 .ensures)
+
+-- What the grounds 14 and 15 give.
+later-is : (c : tie.After-ground-of)
+    → let e = c .before .before .before .before in
+    c .ground-of .result ≡ later (states (bytes e)) (start e .args .state) (start e .args .payload .now)
+later-is c =
+    let e = c .before .before .before .before in
+    c .ground-of .ensures ∙ ap (λ n. later n (start e .args .state) (start e .args .payload .now)) (states-are (c .before))
+
+-- The state is below n, and the payload is not too long.
+runs : (c : tie.Else2)
+    → let e = c .before .before .before .before .before in
+    (start e .args .state < states (bytes e)) × (length (start e .args .payload .now) ≤ 65536)
+runs c =
+    let e = c .before .before .before .before .before in
+    later-clear (states (bytes e)) (start e .args .state) (start e .args .payload .now) (sym (later-is (c .before)) ∙ c .if2 .left)
 
 judge-table-requires : tie.Need-judge-table-requires
 judge-table-requires c κs = search needs
@@ -56,8 +73,11 @@ returns c =
 get16-requires : tie.Need-get16-requires
 get16-requires c κs = omega (arith, accepted c .long)
 
-cast-n : tie.Need-cast-n
-cast-n c = search needs
+states-of-requires : tie.Need-states-of-requires
+states-of-requires c κs = search needs
+
+ground-of-requires : tie.Need-ground-of-requires
+ground-of-requires c κs = search needs
 
 not-scanned-requires-2 : tie.Need-not-scanned-requires-2
 not-scanned-requires-2 c κs = search needs
@@ -66,27 +86,15 @@ returns-2 : tie.Need-returns-2
 unfolding walk walkGrounds judgeTable
 returns-2 c =
     let g = c .before .before in
-    let e = g .before .before in
+    let p = g .before .before .before in
+    let e = p .before in
     let t = start e in
     let r = c .not-scanned2 .result in
-    state-refuses (tableGrounds (bytes e)) (table-numbered (bytes e)) (states (bytes e)) (t .args .state) (t .args .payload .now) (run e) (t .args .room .now) (judged (g .before))
-    (r .refused) (r .taken) (r .state) (r .reports) (r .hops) (omega (arith, g .get16 .ensures, c .before .if2 .taken)) (c .not-scanned2 .ensures)
-
-not-scanned-requires-3 : tie.Need-not-scanned-requires-3
-not-scanned-requires-3 c κs = search needs
-
-returns-3 : tie.Need-returns-3
-unfolding walk walkGrounds judgeTable
-returns-3 c =
-    let s = c .before .before in
-    let e = s .before .before .before in
-    let t = start e in
-    let r = c .not-scanned3 .result in
-    payload-refuses (tableGrounds (bytes e)) (table-numbered (bytes e)) (states (bytes e)) (t .args .state) (t .args .payload .now) (run e) (t .args .room .now) (judged (s .before .before)) (inside s)
-    (r .refused) (r .taken) (r .state) (r .reports) (r .hops) (c .before .if3 .taken) (c .not-scanned3 .ensures)
+    later-refuses (tableGrounds (bytes e)) (table-numbered (bytes e)) (states (bytes e)) (t .args .state) (t .args .payload .now) (run e) (t .args .room .now) (judged p)
+    (g .ground-of .result) (r .refused) (r .taken) (r .state) (r .reports) (r .hops) (later-is g) (c .before .if2 .taken) (c .not-scanned2 .ensures)
 
 get16-requires-2 : tie.Need-get16-requires-2
-get16-requires-2 c κs = omega (arith, accepted (c .before .before .before) .long)
+get16-requires-2 c κs = omega (arith, accepted (c .before .before .before .before) .long)
 
 cast-k : tie.Need-cast-k
 cast-k c = search needs
@@ -94,21 +102,21 @@ cast-k c = search needs
 walk-accepted-requires : tie.Need-walk-accepted-requires
 walk-accepted-requires c κs =
     let k = c .before in
-    let s = k .before .before in
-    let g = s .before in
-    (accepted (g .before), g .get16 .ensures, k .get162 .ensures, s .if2 .left, k .before .if3 .left)
+    let r = k .before in
+    let n = r .before .before in
+    (accepted (n .before .before), states-are n, k .get162 .ensures, n .before .get16 .ensures, omega (arith, runs r .0, states-are n), runs r .1)
 
 same-length : tie.Need-same-length
 same-length c = search needs
 
-returns-4 : tie.Need-returns-4
-returns-4 c =
+returns-3 : tie.Need-returns-3
+returns-3 c =
     let a = c .before .before in
-    let p = a .before .before .before in
-    let s = p .before in
-    let e = s .before .before .before in
+    let r = a .before .before .before in
+    let p = r .before .before .before .before in
+    let e = p .before in
     let t = start e in
-    rw (walk-done (bytes e) (t .args .state) (t .args .payload .now) (t .args .room .now) (judged (s .before .before)) (inside s) (p .if3 .left)) (a .walk-accepted .ensures)
+    rw (walk-done (bytes e) (t .args .state) (t .args .payload .now) (t .args .room .now) (judged p) (runs r .0) (runs r .1)) (a .walk-accepted .ensures)
 
 pub walk-spec : {M : Type 1} → statement M
 walk-spec =
@@ -118,13 +126,12 @@ walk-spec =
     not-scanned-requires
     returns
     get16-requires
-    cast-n
+    states-of-requires
+    ground-of-requires
     not-scanned-requires-2
     returns-2
-    not-scanned-requires-3
-    returns-3
     get16-requires-2
     cast-k
     walk-accepted-requires
     same-length
-    returns-4)
+    returns-3)

@@ -1,7 +1,7 @@
--- The loop's invariant: i is even, the sum fits in sixteen bits, and with the words from i on it comes to the ones' complement sum of all words.
+-- The loop's invariant: the sum fits in sixteen bits, and with the words from word i on it comes to the ones' complement sum of all words.
 use mathlib.Core.Path.{_≡_, refl, ap}
 use mathlib.Core.Logic.{inl, inr}
-use Prim.Native.Nat.{ℕ, _≤_, _-_, _+_, _%_}
+use Prim.Native.Nat.{ℕ, _≤_, _+_, _-_, _*_, _/_}
 use native.Mathlib.Omega.{arith}
 use lib.ListN.{length}
 use borrow.Author.Needs.{needs}
@@ -12,13 +12,16 @@ use Rattle.words.proofs.check_word.Statement.{statement}
 use Rattle.words.proofs.check_word.Tie as tie
 
 abbrev Inv-loop : tie.InvT-loop
-Inv-loop b sum₀ i₀ sum i = (i ≤ length b) × (i % 2 ≡ 0) × Summed b i sum
+Inv-loop b count sum₀ i₀ sum i = (i ≤ length b / 2) × Summed b (2 * i) sum
 
 abbrev μ-loop : tie.MeasureT-loop
-μ-loop b sum₀ i₀ sum i = length b - i
+μ-loop b count sum₀ i₀ sum i = length b / 2 - i
 
 loop-holds : tie.Need-loop-holds Inv-loop μ-loop
-loop-holds c = let b = c .before .args .b .now in (omega arith, omega arith, summed-none b (fits-bytes b (c .shared-slice-known .given)))
+loop-holds c = let b = c .before .args .b .now in (omega arith, summed-none b (fits-bytes b (c .shared-slice-known .given)))
+
+mul-get16 : tie.Need-mul-get16 Inv-loop μ-loop
+mul-get16 c = omega arith
 
 get16-requires : tie.Need-get16-requires Inv-loop μ-loop
 get16-requires c κs = omega arith
@@ -39,7 +42,8 @@ loop-again : tie.Need-loop-again Inv-loop μ-loop
 loop-again c =
     let added = c .before in
     let l = added .before .before .before .loop in
-    (omega arith, omega arith, summed-more _ (l .i) (l .sum) (added .before .get16 .result) _ _ (omega arith) (added .before .get16 .ensures) (omega arith) (l .inv .2) (added .wrapping-add-u16 .ensures) (inl (c .if1 .taken, refl)))
+    let next : 2 * (l .i + 1) ≡ 2 * l .i + 2 = omega arith in
+    (omega arith, rw next (summed-more _ (2 * l .i) (l .sum) (added .before .get16 .result) _ _ (omega arith) (added .before .get16 .ensures) (omega arith) (l .inv .1) (added .wrapping-add-u16 .ensures) (inl (c .if1 .taken, refl))))
 
 loop-less-2 : tie.Need-loop-less-2 Inv-loop μ-loop
 loop-less-2 c = omega arith
@@ -48,14 +52,15 @@ loop-again-2 : tie.Need-loop-again-2 Inv-loop μ-loop
 loop-again-2 c =
     let added = c .before in
     let l = added .before .before .before .loop in
-    (omega arith, omega arith, summed-more _ (l .i) (l .sum) (added .before .get16 .result) _ _ (omega arith) (added .before .get16 .ensures) (omega arith) (l .inv .2) (added .wrapping-add-u16 .ensures) (inr (c .if1 .left, refl)))
+    let next : 2 * (l .i + 1) ≡ 2 * l .i + 2 = omega arith in
+    (omega arith, rw next (summed-more _ (2 * l .i) (l .sum) (added .before .get16 .result) _ _ (omega arith) (added .before .get16 .ensures) (omega arith) (l .inv .1) (added .wrapping-add-u16 .ensures) (inr (c .if1 .left, refl))))
 
 sub-result : tie.Need-sub-result Inv-loop μ-loop
 sub-result c = omega arith
 
 returns : tie.Need-returns Inv-loop μ-loop
 unfolding checkWord
-returns c = ap (λ (x : ℕ). 65535 - x) (summed-all _ (c .before .loop .i) _ (omega arith) (c .before .loop .inv .2))
+returns c = ap (λ (x : ℕ). 65535 - x) (summed-all _ (2 * c .before .loop .i) _ (omega arith) (c .before .loop .inv .1))
 
 pub check-word-spec : {M : Type 1} → statement M
 check-word-spec =
@@ -64,6 +69,7 @@ check-word-spec =
     Inv-loop
     μ-loop
     loop-holds
+    mul-get16
     get16-requires
     add-i
     wrapping-add-u16-requires

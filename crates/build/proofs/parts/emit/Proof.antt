@@ -4,7 +4,7 @@ use mathlib.Core.Path.{_≡_, _∙_}
 use native.Mathlib.Omega.{arith}
 use lib.ListN.{length}
 use Rattle.table.proofs.Next.{accepted-counted}
-use Rattle.build.proofs.Counted.{total-few, length-entries}
+use Rattle.build.proofs.Counted.{total-few, held-few, length-entries}
 use Rattle.build.proofs.Emitted.{emitted}
 use borrow.Author.Needs.{needs}
 use Rattle.build.proofs.parts.emit.Statement.{statement}
@@ -22,6 +22,12 @@ mul-put-records c = search needs
 add-put-records : tie.Need-add-put-records
 add-put-records c = search needs
 
+mul-put-records-2 : tie.Need-mul-put-records-2
+mul-put-records-2 c = search needs
+
+add-put-records-2 : tie.Need-add-put-records-2
+add-put-records-2 c = search needs
+
 put-records-requires : tie.Need-put-records-requires
 put-records-requires c κs = search needs
 
@@ -30,6 +36,12 @@ mul-put-entries c = search needs
 
 add-put-entries : tie.Need-add-put-entries
 add-put-entries c = search needs
+
+mul-put-entries-2 : tie.Need-mul-put-entries-2
+mul-put-entries-2 c = search needs
+
+add-put-entries-2 : tie.Need-add-put-entries-2
+add-put-entries-2 c = search needs
 
 put-entries-requires : tie.Need-put-entries-requires
 put-entries-requires c κs =
@@ -60,13 +72,13 @@ put-trailer-requires c κs =
     let entries = c .before .before .before in
     let s = begun entries in
     let M = s .pre .0 in
-    (omega (arith, M .states-are, M .accepted .few-states), total-few M, omega (arith, entries .put-entries .ensures .0, length-entries M, s .pre .3, as-long (c .before .before)))
+    (omega (arith, M .states-are, M .accepted .few-states), total-few M, held-few M, omega (arith, entries .put-entries .ensures .0, length-entries M, s .pre .3, as-long (c .before .before)))
 
 add-put-check : tie.Need-add-put-check
 add-put-check c =
     let entries = c .before .before .before .before .before .before .before in
     let M = begun entries .pre .0 in
-    omega (arith, entries .put-entries .ensures .0, length-entries M, total-few M, M .states-are, M .accepted .few-states)
+    omega (arith, entries .put-entries .ensures .0, length-entries M, total-few M, held-few M, M .states-are, M .accepted .few-states)
 
 put-check-requires : tie.Need-put-check-requires
 put-check-requires c κs =
@@ -77,7 +89,7 @@ put-check-requires c κs =
     let few = length-entries M in (
       omega (arith, far, few, s .pre .3, c .before .before .room5 .given, as-long (c .before .before .before .before .before .before)),
       omega (arith, far, few),
-      omega (arith, far, few, total-few M, M .states-are, M .accepted .few-states),
+      omega (arith, far, few, total-few M, held-few M, M .states-are, M .accepted .few-states),
     )
 
 same-length : tie.Need-same-length
@@ -103,9 +115,13 @@ emit-spec =
     put-labels-requires
     mul-put-records
     add-put-records
+    mul-put-records-2
+    add-put-records-2
     put-records-requires
     mul-put-entries
     add-put-entries
+    mul-put-entries-2
+    add-put-entries-2
     put-entries-requires
     put-trailer-requires
     add-put-check

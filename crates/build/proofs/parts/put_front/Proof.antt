@@ -1,6 +1,12 @@
--- The five numbers stand one behind the other.
+-- The five numbers stand one behind the other; the first word is the one that its edition and its n give.
+use mathlib.Core.Path.{refl}
 use native.Mathlib.Omega.{arith}
 use borrow.Author.Needs.{needs}
+use Rattle.paper.specs.Words.{number16}
+use Rattle.paper.specs.Table.{edition, states}
+use Rattle.paper.proofs.Words.{number16-below}
+use Rattle.paper.proofs.Editions.{word-back}
+use Rattle.words.proofs.Lent.{fits-bytes}
 use Rattle.build.proofs.Behind.{front-placed}
 use Rattle.build.proofs.parts.put_front.Statement.{statement}
 use Rattle.build.proofs.parts.put_front.Tie as tie
@@ -39,10 +45,13 @@ returns c =
     let p = d .before .before .before .before in
     let q = p .before .before .before .before .before in
     let r = q .before .before .before .before .before in
-    let s = r .before .before .before .before .before in
-    rw (← r .before .get16 .ensures, ← q .before .get162 .ensures, ← p .before .get163 .ensures)
-    (front-placed (s .args .room .now) _ _ _ _ _ _ _ _ (s .args .depth) (s .args .m) (s .pre .1)
-    (r .put16 .ensures) (q .put162 .ensures) (p .put163 .ensures) (d .put164 .ensures) (e .put32 .ensures))
+    let known = r .before .before .before .before in
+    let s = known .before in
+    let t = s .args .t .now in
+    let word = word-back (number16 t 0) (edition t) (states t) (number16-below t 0 (fits-bytes t (known .shared-slice-known .given))) refl refl in
+    rw (← q .before .get162 .ensures, ← p .before .get163 .ensures)
+    (front-placed (s .args .room .now) _ _ _ _ _ (edition t) _ (states t) _ _ (s .args .depth) (s .args .m) (s .pre .1)
+    (r .put16 .ensures) (omega (arith, r .before .get16 .ensures, word)) (q .put162 .ensures) (p .put163 .ensures) (d .put164 .ensures) (e .put32 .ensures))
 
 pub put-front-spec : {M : Type 1} → statement M
 put-front-spec =

@@ -14,6 +14,12 @@ mul-copy c = omega arith
 add-copy : tie.Need-add-copy
 add-copy c = omega arith
 
+mul-copy-2 : tie.Need-mul-copy-2
+mul-copy-2 c = omega arith
+
+add-copy-2 : tie.Need-add-copy-2
+add-copy-2 c = omega arith
+
 copy-requires : tie.Need-copy-requires
 copy-requires c κs = omega arith
 
@@ -27,7 +33,7 @@ returns c =
     let s = known .before in
     let a = s .args in
     w .copy .ensures
-    ∙ ap (placed (a .room .now) 12) (labels-copied (a .t .now) (a .n) (fits-bytes (a .t .now) (known .shared-slice-known .given)) (s .pre .0) (s .pre .2))
+    ∙ ap (placed (a .room .now) 12) (labels-copied (a .t .now) (a .n) (a .held) (fits-bytes (a .t .now) (known .shared-slice-known .given)) (s .pre .0) (s .pre .1) (s .pre .2))
 
 pub put-labels-spec : {M : Type 1} → statement M
 put-labels-spec =
@@ -35,6 +41,8 @@ put-labels-spec =
     (tie.spec
     mul-copy
     add-copy
+    mul-copy-2
+    add-copy-2
     copy-requires
     same-length
     returns)

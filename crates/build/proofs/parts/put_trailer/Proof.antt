@@ -40,7 +40,7 @@ returns c =
     let p = whole .before .before .before in
     let s = p .before .before .before in
     let a = s .args in
-    trailer-placed (a .room .now) _ _ _ (a .at) (a .n) (a .m) (whole .image-length .result) (a .worst) (s .pre .2) (whole .image-length .ensures) (p .put32 .ensures) (q .put322 .ensures) (r .put16 .ensures)
+    trailer-placed (a .room .now) _ _ _ (a .at) (a .n) (a .m) (a .held) (whole .image-length .result) (a .worst) (s .pre .3) (whole .image-length .ensures) (p .put32 .ensures) (q .put322 .ensures) (r .put16 .ensures)
 
 pub put-trailer-spec : {M : Type 1} → statement M
 put-trailer-spec =
