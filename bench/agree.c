@@ -8,7 +8,7 @@
 enum { CASES = 10000, ROOM = 8192 };
 
 static uint8_t table[ROOM], image[ROOM], list[64], by_archive[ROOM], by_c[ROOM];
-static uint32_t grounds[20];
+static uint32_t grounds[22];
 
 /* Plain C has a function for each edition; which it is says the first word, and what is too short for one is refused by either. */
 static int second(const uint8_t *bytes, size_t length) { return length >= 2 && edition_in(bytes) == 2; }
@@ -28,6 +28,13 @@ static void same_walk(size_t length, uint32_t state, const uint8_t *payload, siz
     if (!b.refused) b = IN_EDITION(walk, table, length)(table, length, state, payload, bytes, by_c, room_length);
     if (memcmp(&a, &b, sizeof a) || memcmp(by_archive, by_c, ROOM)) fail("walk", number);
     grounds[a.refused]++;
+}
+
+/* The same of the moves: in C an accepted image is moved. */
+static void same_move(size_t length, size_t room_length, uint32_t number) {
+    uint32_t refused = IN_EDITION(judge_image, image, length)(image, length);
+    same("forward", kamordast_forward(image, length, by_archive, room_length), refused ? (kamordast_built){refused, 0} : plain_forward(image, length, by_c, room_length), number);
+    same("back", kamordast_back(image, length, by_archive, room_length), refused ? (kamordast_built){refused, 0} : plain_back(image, length, by_c, room_length), number);
 }
 
 /* Changes a few bytes between two places, mostly to small numbers. */
@@ -69,6 +76,7 @@ int main(void) {
         uint32_t judged = IN_EDITION(judge_image, image, built.length)(image, built.length);
         same("judge an image", (kamordast_built){kamordast_judge_image(image, built.length), 0}, (kamordast_built){judged, 0}, number);
         same("expand", kamordast_expand(image, built.length, by_archive, room_length), IN_EDITION(expand, image, built.length)(image, built.length, by_c, room_length), number);
+        same_move(built.length, room_length, number);
         if (judged) continue;
         uint32_t state = below(states_in(image));
         kamordast_scanned a = kamordast_scan(image, built.length, state, payload, 64, by_archive, room_length % 400);
@@ -76,7 +84,7 @@ int main(void) {
         if (memcmp(&a, &b, sizeof a) || memcmp(by_archive, by_c, ROOM)) fail("scan", number);
     }
     printf("plain C and the archive agree on %u small cases; answers by number:", (unsigned)CASES);
-    for (uint32_t ground = 0; ground < 20; ground++)
+    for (uint32_t ground = 0; ground < 22; ground++)
         if (grounds[ground]) printf(" %u: %u", (unsigned)ground, (unsigned)grounds[ground]);
     printf("\n");
     return 0;

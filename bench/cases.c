@@ -107,6 +107,14 @@ void use_order(uint32_t order) {
     if (order == 3) *strstr(case_name, ", D") = 0;
 }
 
+void use_forward(void) {
+    static uint8_t moved[LONGEST_IMAGE];
+    kamordast_built built = kamordast_forward(given.image, given.image_length, moved, sizeof moved);
+    if (built.refused) fail("the image is refused", built.refused);
+    memcpy(given.image, moved, built.length);
+    given.image_length = built.length;
+}
+
 void use_flat(void) {
     given.table_length = make_flat(given.table, given.defaults);
     use_written("to compare: 128 entries a state, flat");

@@ -23,6 +23,9 @@ void use_largest(const char *shape, uint32_t bound);
 /* The largest table with 511 levels behind the start, compacted with a bound. */
 void use_levels(uint32_t bound);
 
+/* The image at hand moved into edition 2, with at most one label on a state. */
+void use_forward(void);
+
 /* The image of the same table and bound in another order; order 3 has no bound in its name. */
 void use_order(uint32_t order);
 

@@ -81,6 +81,18 @@ static void random_row(const operation *o) {
     row(o);
 }
 
+/* A move on both word lists and on the largest table of random rows; back takes what forward makes of them. */
+static void move_rows(const operation *o, int second) {
+    for (uint32_t k = 27; k <= 209; k += 182) {
+        use_words(k, 2);
+        if (second) use_forward();
+        row(o);
+    }
+    use_largest("random", 3);
+    if (second) use_forward();
+    row(o);
+}
+
 static const char *const shapes[] = {"equal", "path", "random"};
 
 /* Compact in an order above 0, on both word lists and the largest tables, with three bounds. */
@@ -161,6 +173,10 @@ int main(void) {
     random_row(&write_with_a_list);
     word_rows(&expand, 2);
     random_row(&expand);
+    move_rows(&forward, 0);
+    move_rows(&forward_with_judging, 0);
+    move_rows(&back, 1);
+    move_rows(&back_with_judging, 1);
     scan_rows(&scan);
     scan_rows(&scan_with_judging);
     walk_rows(&walk);

@@ -41,6 +41,21 @@ static void write_c(void) { by_c.numbers = built(plain_write(TABLE, DEFAULTS, RO
 static void expand_archive(void) { by_archive.numbers = built(kamordast_expand(IMAGE, ROOM(by_archive))); }
 static void expand_c(void) { by_c.numbers = built(plain_expand(IMAGE, ROOM(by_c))); }
 
+static void forward_archive(void) { by_archive.numbers = built(kamordast_forward(IMAGE, ROOM(by_archive))); }
+static void forward_c(void) { by_c.numbers = built(plain_forward(IMAGE, ROOM(by_c))); }
+static void back_archive(void) { by_archive.numbers = built(kamordast_back(IMAGE, ROOM(by_archive))); }
+static void back_c(void) { by_c.numbers = built(plain_back(IMAGE, ROOM(by_c))); }
+
+static void judge_and_forward_c(void) {
+    uint32_t refused = plain_judge_image(IMAGE);
+    by_c.numbers = refused ? answered(refused) : built(plain_forward(IMAGE, ROOM(by_c)));
+}
+
+static void judge_and_back_c(void) {
+    uint32_t refused = plain_second_judge_image(IMAGE);
+    by_c.numbers = refused ? answered(refused) : built(plain_back(IMAGE, ROOM(by_c)));
+}
+
 static void scan_archive(void) { by_archive.numbers = kamordast_scan(IMAGE, PAYLOAD, ROOM(by_archive)); }
 static void scan_c(void) { by_c.numbers = plain_scan(IMAGE, PAYLOAD, ROOM(by_c)); }
 
@@ -87,6 +102,10 @@ const operation compact_toward = {"compact, order 3", compact_toward_archive, co
 const operation compact_toward_sparing = {"order 3, C sparing", compact_toward_archive, compact_toward_c_sparing, NULL, 0};
 const operation write_with_a_list = {"write", write_archive, write_c, NULL, 0};
 const operation expand = {"expand", expand_archive, expand_c, NULL, 0};
+const operation forward = {"forward, no judging", forward_archive, forward_c, judge_image_archive, 0};
+const operation forward_with_judging = {"forward", forward_archive, judge_and_forward_c, NULL, 0};
+const operation back = {"back, no judging", back_archive, back_c, judge_image_archive, 0};
+const operation back_with_judging = {"back", back_archive, judge_and_back_c, NULL, 0};
 const operation scan = {"scan, no judging", scan_archive, scan_c, judge_image_archive, 0};
 const operation scan_with_judging = {"scan with judging", scan_archive, judge_and_scan_c, NULL, 0};
 const operation walk = {"walk, no judging", walk_archive, walk_c, walk_nothing, 1};

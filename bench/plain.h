@@ -1,5 +1,5 @@
 /* What the proved code is measured against: the same work in C, tuned by hand. Each operation answers as the archive's does, on acceptance and refusal
- * alike; only scan and walk take what was judged before. An operation of edition 1 knows that edition alone, so that it is compiled as it was before there was another; where edition 2
+ * alike; only scan, walk and the moves take what was judged before. An operation of edition 1 knows that edition alone, so that it is compiled as it was before there was another; where edition 2
  * asks for other code it has a function of its own, `plain_second_...`. */
 #ifndef PLAIN_H
 #define PLAIN_H
@@ -90,6 +90,10 @@ uint32_t plain_second_judge_image(const uint8_t *image, size_t length);
 kamordast_built plain_second_compact(const uint8_t *table, size_t length, uint32_t order, uint32_t bound, int seeking, uint8_t *room, size_t room_length);
 kamordast_built plain_second_write(const uint8_t *table, size_t length, const uint8_t *list, size_t list_length, uint8_t *room, size_t room_length);
 kamordast_built plain_second_expand(const uint8_t *image, size_t length, uint8_t *room, size_t room_length);
+
+/* An accepted image of edition 1 into edition 2, and of edition 2 back: each takes both, to refuse one of them. */
+kamordast_built plain_forward(const uint8_t *image, size_t length, uint8_t *room, size_t room_length);
+kamordast_built plain_back(const uint8_t *image, size_t length, uint8_t *room, size_t room_length);
 
 /* The walk of a payload through an accepted image. */
 kamordast_scanned plain_scan(const uint8_t *image, size_t length, uint32_t state, const uint8_t *payload, size_t bytes, uint8_t *room, size_t room_length);

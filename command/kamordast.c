@@ -21,6 +21,8 @@ static const char help[] =
     "                                 the image of TABLE with path bound BOUND, 0 to 65535\n"
     "  write TABLE DEFAULTS IMAGE     the image of TABLE with a list of defaults, two bytes a state\n"
     "  expand IMAGE TABLE             the table of IMAGE\n"
+    "  forward IMAGE IMAGE            the first, of edition 1, moved into edition 2 as the second\n"
+    "  back IMAGE IMAGE               the first, of edition 2 with at most one label on a state, moved into edition 1\n"
     "  scan IMAGE PAYLOAD [STATE]     the reports of PAYLOAD, from STATE or the start state, a line for each label of an offset\n"
     "  walk TABLE PAYLOAD [STATE]     the same by the table itself, without an image and without hops\n"
     "  served [--sort] IMAGE PAYLOAD  for each state how often it served and how often it ran; --sort: the one that served most first\n"
@@ -30,11 +32,13 @@ static const char help[] =
     "\n"
     "Orders of pairs of equal weight: 0 by pair (where none is named), 1 the shortest path over the pair (BGS), 2 the least growth (REF).\n"
     "Order 3 lets each state fall back toward the start: a whole payload from there costs no more hops than it has bytes, and BOUND changes nothing.\n"
-    "Edition 2 of tables and images has up to 16 labels on a state. Every command takes both editions, and an output file is of its input's.\n"
+    "Edition 2 of tables and images has up to 16 labels on a state. Every command takes both editions, and an output file is of its input's, but for forward and back.\n"
     "Example: kamordast compact --order 3 examples/words.table 0 words.image\n"
     "Example: kamordast served --sort words.image README.md\n"
     "Example: kamordast walk examples/words.table README.md\n"
     "Example: kamordast walk examples/endings.table README.md\n"
+    "Example: kamordast forward words.image words-2.image\n"
+    "Example: kamordast back words-2.image words-1.image\n"
     "Exit status: 0 done, 1 refused (the number and what to do on standard error), 2 usage, 3 file trouble, 4 a count that is not the scan's.\n"
     "A file is written beside its place, read back and judged before it gets its name.\n";
 
@@ -113,6 +117,14 @@ static int write_image(const char *table, const char *defaults, const char *imag
 static int expand(const char *image, const char *table) {
     size_t length = read_file(image, input, LONGEST_IMAGE);
     return store(image, kamordast_expand(input, length, room, sizeof room), table, is_table);
+}
+
+/* What moves an image to the other edition. */
+typedef kamordast_built mover(const uint8_t *, size_t, uint8_t *, size_t);
+
+static int move(mover *moved, const char *from, const char *to) {
+    size_t length = read_file(from, input, LONGEST_IMAGE);
+    return store(from, moved(input, length, room, sizeof room), to, is_image);
 }
 
 /* What runs a payload from a state, of an image or of a table, and what judges it; both have their start state at the same place. */
@@ -214,6 +226,8 @@ static int run(int count, char **words) {
     }
     if (!strcmp(command, "write")) return count == 5 ? write_image(words[2], words[3], words[4]) : usage("write wants TABLE DEFAULTS IMAGE");
     if (!strcmp(command, "expand")) return count == 4 ? expand(words[2], words[3]) : usage("expand wants IMAGE TABLE");
+    if (!strcmp(command, "forward")) return count == 4 ? move(kamordast_forward, words[2], words[3]) : usage("forward wants IMAGE IMAGE");
+    if (!strcmp(command, "back")) return count == 4 ? move(kamordast_back, words[2], words[3]) : usage("back wants IMAGE IMAGE");
     if (!strcmp(command, "scan"))
         return count == 4 || count == 5 ? scan(words[2], words[3], count == 5 ? words[4] : NULL) : usage("scan wants IMAGE PAYLOAD [STATE]");
     if (!strcmp(command, "walk"))

@@ -28,6 +28,8 @@ static const struct {
     {0, 0}, /* 17 is not used */
     {"there is no such order", "take order 0, 1, 2 or 3; where none is named it is 0"},
     {"a state has more than 16 labels, or a label that is 0 or not above the one before it", "it was built wrongly: send it back to the rules desk"},
+    {"the image is of the edition that it was to be moved to", "it needs no move: load it as it is, or take the other direction; judge names the edition"},
+    {"a state has more than one label, and edition 1 has room for one", "it cannot go back: ask the rules desk for a table with one rule on each state, or give the image to a board that takes edition 2"},
 };
 
 static int known(uint32_t number) { return number < sizeof sheet / sizeof *sheet && sheet[number].meaning; }

@@ -1,4 +1,4 @@
-/* Kamordast: rule tables compacted into images, judged, expanded, scanned and walked. Every function is proved to meet the definition paper.
+/* Kamordast: rule tables compacted into images, judged, expanded, moved across the editions, scanned and walked. Every function is proved to meet the definition paper.
  *
  * A slice is a pointer and a length. The pointer is never null, not even for a length of 0, and a room overlaps no other slice. A caller that breaks this is
  * promised nothing.
@@ -14,21 +14,22 @@
 extern "C" {
 #endif
 
-/* Both formats come in two editions, and every function takes both; what compact, write and expand make is of their input's edition. All numbers are little-endian. A
+/* Both formats come in two editions, and every function takes both; what compact, write and expand make is of their input's edition, and forward and back make the other. All numbers are little-endian. A
  * table is n, k and the start state (16 bits each), 256 bytes with the class of each byte, the labels, and n rows of k next states. An image is n, k, start, depth (16 bits each) and m (32 bits),
  * the 256 classes, the labels, n records (default state or 65535, count of entries), m entries (class, next state) and a trailer of 12 bytes. The labels are, in
  *   edition 1: a label of 16 bits for each state, 0 for no rule. The first word is n, 1 to 512.
  *   edition 2: a count of 16 bits for each state, 0 to 16, and behind the counts all labels, 16 bits each, by state, rising within a state and never 0. The first word is n and 32768.
  * docs/FORMATS.md has every byte of both. A loader that knows edition 1 only refuses an image of edition 2 with 2. */
 
-/* The largest table and the largest image that there are, of either edition: a room of so many bytes is always enough for expand, and for compact and write. */
+/* The largest table and the largest image that there are, of either edition: a room of so many bytes is always enough for expand, and for compact, write,
+ * forward and back. */
 #define KAMORDAST_LARGEST_TABLE 279814
 #define KAMORDAST_LARGEST_IMAGE 544024
 
 /* The most labels of a state: a room of 6 times so many bytes for each byte of a payload is always enough for its reports. */
 #define KAMORDAST_MOST_LABELS 16
 
-/* What compact, write and expand answer: 0 or the refusal's number, and the length of the result in the room. */
+/* What compact, write, expand, forward and back answer: 0 or the refusal's number, and the length of the result in the room. */
 typedef struct {
     uint32_t refused;
     uint32_t length;
@@ -64,6 +65,14 @@ kamordast_built kamordast_write(const uint8_t *table, size_t table_length, const
 
 /* Expands an image into its table at the front of the room. */
 kamordast_built kamordast_expand(const uint8_t *image, size_t image_length, uint8_t *room, size_t room_length);
+
+/* Moves an image of edition 1 into edition 2, at the front of the room: the label 0 becomes an empty list, any other a list of one. Nothing else changes but the whole length and the check word, so every
+ * scan answers and reports the same. An image of edition 2 is refused with 20. */
+kamordast_built kamordast_forward(const uint8_t *image, size_t image_length, uint8_t *room, size_t room_length);
+
+/* Moves an image of edition 2 back into edition 1: an empty list becomes the label 0, a list of one its label. An image of edition 1 is refused with 20, and one in which a state has more than one label with
+ * 21. Forward and then back, or back and then forward, gives the same bytes. */
+kamordast_built kamordast_back(const uint8_t *image, size_t image_length, uint8_t *room, size_t room_length);
 
 /* Scans a payload from a state. A report is 6 bytes in the room: the byte's offset in this call (32 bits) and the label (16 bits). A byte that lands on a state with several labels
  * gives as many reports, in rising order. The scan stops before the first byte whose reports do not all fit, and writes none of them. */

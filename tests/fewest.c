@@ -5,6 +5,7 @@
 #include "built.h"
 #include "kamordast.h"
 #include "old_loader.h"
+#include "there_and_back.h"
 
 static uint64_t tables, lists;
 
@@ -23,6 +24,7 @@ static uint32_t compacted(uint32_t in_order, uint16_t bound) {
     kamordast_built answer = kamordast_compact_in_order(table, table_length(), in_order, bound, image, sizeof image);
     if (answer.refused) fail("compact refuses", tables);
     if (edition_in(image) == 2) old_loader(image, answer.length, 0, tables);
+    there_and_back(image, answer.length, tables);
     return transitions(image);
 }
 

@@ -7,6 +7,7 @@
 #include "old_loader.h"
 #include "reference/reference.h"
 #include "support.h"
+#include "there_and_back.h"
 
 static guarded lent;
 static uint8_t table[LONGEST_TABLE], image[LONGEST_IMAGE], other[LONGEST_IMAGE], kept[LONGEST_IMAGE], defaults[1024];
@@ -25,6 +26,7 @@ static uint32_t judged(int as_image, const uint8_t *bytes, size_t length) {
         if (memcmp(place, bytes, length)) fail("a lent byte was changed", cases);
     }
     if (as_image) old_loader(bytes, length, right, cases);
+    if (as_image && !right) there_and_back(bytes, length, cases);
     (as_image ? given_to_images : given_to_tables)[right]++;
     cases++;
     return right;

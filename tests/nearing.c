@@ -9,6 +9,7 @@
 #include "old_loader.h"
 #include "reference/reference.h"
 #include "support.h"
+#include "there_and_back.h"
 
 static uint8_t table[LONGEST_TABLE], image[LONGEST_IMAGE], payload[65536], room[6 * KAMORDAST_MOST_LABELS * 65536], wanted[6 * KAMORDAST_MOST_LABELS * 65536];
 static int level[512];
@@ -21,6 +22,7 @@ static void use(size_t table_length) {
     if (built.refused) fail("a table as it should be", built.refused);
     length = built.length;
     old_loader(image, length, 0, cases);
+    there_and_back(image, length, cases);
     reference_levels(table, level);
 }
 

@@ -7,6 +7,7 @@
 #include "old_loader.h"
 #include "reference/reference.h"
 #include "support.h"
+#include "there_and_back.h"
 
 static guarded lent_image, lent_payload, lent_room;
 static uint8_t table[LONGEST_TABLE], image[LONGEST_IMAGE], payload[65600], wanted[6 * KAMORDAST_MOST_LABELS * 65600], defaults[1024];
@@ -42,6 +43,7 @@ static size_t some_image(uint32_t n, uint32_t k) {
     reference_built built = reference_write(table, length, defaults, 2 * (size_t)n, image, sizeof image);
     if (built.refused) fail("the reference refused its own table", cases);
     old_loader(image, built.length, 0, cases);
+    there_and_back(image, built.length, cases);
     return built.length;
 }
 

@@ -6,6 +6,7 @@
 #include "kamordast.h"
 #include "old_loader.h"
 #include "reference/reference.h"
+#include "there_and_back.h"
 
 enum { LONGEST_PAYLOAD = 65536, LONGEST_ROOM = 6 * KAMORDAST_MOST_LABELS * LONGEST_PAYLOAD };
 
@@ -45,6 +46,7 @@ static void write_image(void) {
     if (built.refused) fail("the reference refused its own table", built.refused);
     image_length = built.length;
     old_loader(image, image_length, 0, cases);
+    there_and_back(image, image_length, cases);
 }
 
 /* T in edition 2, its states 1, 2 and 3 falling to 0. State 2 has 7, 8 and 300, state 3 has 9. */

@@ -8,6 +8,7 @@
 #include "old_loader.h"
 #include "reference/reference.h"
 #include "support.h"
+#include "there_and_back.h"
 
 static const struct {
     const char *name;
@@ -48,6 +49,7 @@ static void kept(size_t i) {
     size_t length = read_image(stored[i].name);
     if (kamordast_judge_image(image, length) || reference_judge_image(image, length)) fail("a stored image is refused", i);
     old_loader(image, length, 0, i);
+    there_and_back(image, length, i);
 
     kamordast_built back = kamordast_expand(image, length, table, sizeof table);
     if (back.refused || kamordast_judge_table(table, back.length)) fail("a stored image is not expanded", i);

@@ -7,6 +7,7 @@
 #include "old_loader.h"
 #include "reference/reference.h"
 #include "support.h"
+#include "there_and_back.h"
 
 enum { IMAGES = 5, SHORT = 40 };
 
@@ -64,6 +65,7 @@ static void some_table(uint32_t n, uint32_t k) {
                                       : kamordast_write(table, table_length, defaults, 2 * (size_t)n, images[i], LONGEST_IMAGE);
         if (built.refused) fail("a sound table was refused", cases);
         old_loader(images[i], built.length, 0, cases);
+        there_and_back(images[i], built.length, cases);
         image_length[i] = built.length;
     }
 }
@@ -187,6 +189,7 @@ static void told_apart(int tables) {
             kamordast_built built = kamordast_compact_in_order(other, table_length, below(4), (uint16_t)below(5), altered, LONGEST_IMAGE);
             if (built.refused || fault(&right, other, altered, built.length) != IN_THE_TABLE) fail("the fault is in the table", cases);
             old_loader(altered, built.length, 0, cases);
+            there_and_back(altered, built.length, cases);
             if (fault(&right, other, images[i], image_length[i]) != IN_THIS_COPY_OF_THE_TABLE) fail("the image is of the table before", cases);
             altered[built.length - 1] ^= 1;
             if (fault(&right, other, altered, built.length) != IN_BOTH) fail("a fault in both", cases);

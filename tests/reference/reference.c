@@ -21,7 +21,7 @@ static void append32(uint8_t **p, uint32_t x) {
 }
 
 /* RFC 1071, the carry brought round after every word. */
-static uint32_t check_word(const uint8_t *b, size_t length) {
+uint32_t reference_check_word(const uint8_t *b, size_t length) {
     uint32_t sum = 0;
     for (size_t i = 0; i < length; i += 2) {
         sum += b[i] + (i + 1 < length ? 256u * b[i + 1] : 0);
@@ -132,7 +132,7 @@ uint32_t reference_judge_image(const uint8_t *b, size_t length) {
     size_t records = 268 + 2 * n + 2 * (size_t)labels_behind(b, 268), entries = records + 4 * n;
     if (length != entries + 4 * m + 12) return 3;
     if (read32(b, length - 8) != length || read32(b, length - 12) != 4 * m + 12) return 4;
-    if (read16(b, length - 2) != check_word(b, length - 2)) return 5;
+    if (read16(b, length - 2) != reference_check_word(b, length - 2)) return 5;
     if (read16(b, 4) >= n) return 6;
     if (classes_wrong(b + 12, (uint32_t)k)) return 7;
     if (labels_wrong(b, 268)) return 19;
@@ -219,7 +219,7 @@ static uint8_t *image_of(const numbers *a, const uint32_t *fallback, size_t *len
     append32(&p, 4 * m + 12);
     append32(&p, (uint32_t)*length);
     append16(&p, worst_of(r, a->n, a->class_of));
-    append16(&p, check_word(image, *length - 2));
+    append16(&p, reference_check_word(image, *length - 2));
     free(r);
     return image;
 }

@@ -1,5 +1,5 @@
 /* An independent reading of the definition paper and the requests, plain and slow: what the proved operations are compared with. It shares no code with them.
- * Tables and images are of either edition, and a result is of its input's. */
+ * Tables and images are of either edition, and a result is of its input's, but for the moves, which make the other. */
 #ifndef REFERENCE_H
 #define REFERENCE_H
 
@@ -14,6 +14,8 @@ typedef struct {
     uint32_t refused, taken, state, reports, hops;
 } reference_scanned;
 
+/* The complement of the ones' complement sum of some words. */
+uint32_t reference_check_word(const uint8_t *b, size_t length);
 uint32_t reference_judge_table(const uint8_t *table, size_t length);
 uint32_t reference_judge_image(const uint8_t *image, size_t length);
 /* The level of each state of an accepted table, the fewest bytes from the start state to it; -1 where no payload leads to it. */
@@ -22,6 +24,9 @@ reference_built reference_compact(const uint8_t *table, size_t length, uint32_t 
 reference_built reference_write(const uint8_t *table, size_t length, const uint8_t *defaults, size_t defaults_length, uint8_t *room,
                                 size_t room_length);
 reference_built reference_expand(const uint8_t *image, size_t length, uint8_t *room, size_t room_length);
+/* An image of edition 1 into edition 2, and of edition 2 back into edition 1. */
+reference_built reference_forward(const uint8_t *image, size_t length, uint8_t *room, size_t room_length);
+reference_built reference_back(const uint8_t *image, size_t length, uint8_t *room, size_t room_length);
 reference_scanned reference_scan(const uint8_t *image, size_t length, uint32_t state, const uint8_t *payload, size_t payload_length,
                                  uint8_t *room, size_t room_length);
 reference_scanned reference_walk(const uint8_t *table, size_t length, uint32_t state, const uint8_t *payload, size_t payload_length,

@@ -1,7 +1,7 @@
 // What the operations answer, as Rattle and C see it.
 ghost use mathlib.Core.Path.{_≡_};
 
-// What compact, write and expand answer: 0 or the refusal's number, and the length of the result.
+// What compact, write, expand and the moves answer: 0 or the refusal's number, and the length of the result.
 #[repr(C)]
 pub struct Built {
     pub refused: u32,

@@ -3,23 +3,23 @@ use mathlib.Core.Path.{_≡_, refl, sym, ap, ap₂, _∙_}
 use mathlib.Core.List.{List, _++_, append-assoc}
 use Prim.Native.Nat.{ℕ, _+_, _*_, _≤_}
 use native.Mathlib.Omega.{arith}
-use lib.ListN.{length, take, drop, length-append}
-use lib.Seq.{take-at}
-use Rattle.paper.specs.Below.{each, list, sum}
+use lib.ListN.{length, take, length-append}
+use Rattle.paper.specs.Below.{each, list}
 use Rattle.paper.specs.Words.{bytes16, bytes32, words, checkWord}
 use Rattle.paper.specs.Labels.{Edition}
 use Rattle.paper.specs.Table.{edition, states, classes, start, classOf, labels}
 use Rattle.paper.specs.View.{View, depthOf, worstOf}
 use Rattle.paper.specs.Image.{imageLength}
-use Rattle.paper.specs.Results.{labelBytes, recordBytes, entryBytes, front, trailer, parts, imageOfView, imageOf}
+use Rattle.paper.specs.Results.{labelBytes, front, trailer, parts, imageOf}
 use Rattle.paper.specs.Operations.{filled}
 use Rattle.trips.proofs.ImageParts.{end}
 use Rattle.words.specs.Placed.{placed}
-use Rattle.words.proofs.Placed.{placed-front}
+use Rattle.words.proofs.Behind.{placed-behind}
+use Rattle.ending.proofs.Trailer.{length-trailer}
+use Rattle.ending.proofs.Ended.{body, ended}
 use Rattle.tally.specs.Owned.{listView}
 use Rattle.build.specs.Pieces.{classesAndLabels, listedRecord, keptRow}
 use Rattle.build.specs.Measured.{listImage, Measured}
-use Rattle.build.proofs.Behind.{placed-behind}
 use Rattle.build.proofs.Pieces.{length-labelled, length-records}
 use Rattle.build.proofs.Counted.{total-are, labels-held, records-are, entries-are, length-entries}
 
@@ -27,26 +27,10 @@ use Rattle.build.proofs.Counted.{total-are, labels-held, records-are, e
 five : (a b c d e : List ℕ) → (((a ++ b) ++ c) ++ d) ++ e ≡ a ++ (b ++ (c ++ (d ++ e)))
 five a b c d e = simp append-assoc
 
--- What stands behind the parts of an image ends it.
-parts-behind : (e : Edition) (v : View) (start : ℕ) (classOf : ℕ → ℕ) (labels : ℕ → List ℕ) (x w : List ℕ)
-    → parts e v start classOf labels x ++ w ≡ parts e v start classOf labels (x ++ w)
-unfolding parts
-parts-behind e v start classOf labels x w =
-    behind (front e (v .states) (v .classes) start (depthOf v) (sum (v .states) (v .count))) (list 256 classOf) (labelBytes e (v .states) labels)
-    (each (v .states) (recordBytes v)) (each (v .states) (entryBytes v))
-  where
-    behind : (a b c d f : List ℕ) → (a ++ (b ++ (c ++ (d ++ (f ++ x))))) ++ w ≡ a ++ (b ++ (c ++ (d ++ (f ++ (x ++ w)))))
-    behind a b c d f = simp append-assoc
-
 -- The front takes 12 bytes.
 length-front : (e : Edition) (n k start depth m : ℕ) → length (front e n k start depth m) ≡ 12
 unfolding front bytes16 bytes32
 length-front e n k start depth m = refl
-
--- The trailer takes 10 bytes before the check word.
-length-trailer : (n m held worst : ℕ) → length (trailer n m held worst) ≡ 10
-unfolding trailer bytes16 bytes32
-length-trailer n m held worst = refl
 
 module _ {t : List ℕ} {n k held : ℕ} {def counts : List ℕ} {m : ℕ} (M : Measured t n k held def counts m) {depth worst : ℕ} (D : depth ≡ depthOf (listView t def))
     (W : worst ≡ worstOf (listView t def) (classOf t)) where
@@ -58,25 +42,17 @@ module _ {t : List ℕ} {n k held : ℕ} {def counts : List ℕ} {m : ℕ} (M : 
   abbrev head : List ℕ
   head = front (edition t) (states t) (classes t) (start t) depth m
 
-  -- The trailer but for the check word.
-  abbrev tail : List ℕ
-  tail = end (edition t) v (start t) (classOf t) (labels t)
-
   -- All that the check word is over.
-  abbrev body : List ℕ
-  body = parts (edition t) v (start t) (classOf t) (labels t) tail
+  abbrev all : List ℕ
+  all = body (edition t) v (start t) (classOf t) (labels t)
 
-  body-is : head ++ (classesAndLabels t ++ (each n (listedRecord def counts) ++ (each n (keptRow t k def) ++ trailer n m held worst))) ≡ body
+  body-is : head ++ (classesAndLabels t ++ (each n (listedRecord def counts) ++ (each n (keptRow t k def) ++ trailer n m held worst))) ≡ all
   unfolding parts classesAndLabels
   body-is =
-      let ends : trailer n m held worst ≡ tail = rw (M .states-are, total-are M, labels-held M, W) refl in
+      let ends : trailer n m held worst ≡ end (edition t) v (start t) (classOf t) (labels t) = rw (M .states-are, total-are M, labels-held M, W) refl in
       let rest = ap₂ _++_ (records-are M) (ap₂ _++_ (entries-are M) ends) in
       ap₂ _++_ (ap₂ (front (edition t) (states t) (classes t) (start t)) D (total-are M))
       (ap (λ (l : List ℕ). classesAndLabels t ++ l) rest ∙ append-assoc (list 256 (classOf t)) (labelBytes (edition t) (states t) (labels t)) _)
-
-  image-is : body ++ bytes16 (checkWord (words body)) ≡ listImage t def
-  unfolding imageOf imageOfView
-  image-is = parts-behind (edition t) v (start t) (classOf t) (labels t) tail (bytes16 (checkWord (words body)))
 
   -- Written in their order, with the check word of what stands before it, the parts are the image.
   pub emitted : (r₀ r₁ r₂ r₃ r₄ r₅ r₆ : List ℕ) (end : ℕ) → imageLength n m held ≤ length r₀ → r₁ ≡ placed r₀ 0 head → r₂ ≡ placed r₁ 12 (classesAndLabels t)
@@ -84,6 +60,7 @@ module _ {t : List ℕ} {n k held : ℕ} {def counts : List ℕ} {m : ℕ} (M : 
       → (end ≡ 268 + 6 * n + 2 * held + length (each n (keptRow t k def))) × (r₄ ≡ placed r₃ (268 + 6 * n + 2 * held) (each n (keptRow t k def)))
       → r₅ ≡ placed r₄ end (trailer n m held worst) → r₆ ≡ placed r₅ (end + 10) (bytes16 (checkWord (words (take (end + 10) r₅))))
       → r₆ ≡ filled (listImage t def) r₀
+  unfolding imageOf
   emitted r₀ r₁ r₂ r₃ r₄ r₅ r₆ end fits e₁ e₂ e₃ (far, e₄) e₅ e₆ =
       let a = head in
       let b = classesAndLabels t in
@@ -100,17 +77,12 @@ module _ {t : List ℕ} {n k held : ℕ} {def counts : List ℕ} {m : ℕ} (M : 
       let lab : length (a ++ b) ≡ 268 + 2 * n + 2 * held = omega (arith, length-append a b) in
       let labc : length ((a ++ b) ++ c) ≡ 268 + 6 * n + 2 * held = omega (arith, length-append (a ++ b) c) in
       let labcd : length (((a ++ b) ++ c) ++ d) ≡ end = omega (arith, length-append ((a ++ b) ++ c) d) in
-      let all : length ((((a ++ b) ++ c) ++ d) ++ e) ≡ end + 10 = omega (arith, length-append (((a ++ b) ++ c) ++ d) e) in
-      let same : (((a ++ b) ++ c) ++ d) ++ e ≡ body = five a b c d e ∙ body-is in
-      let long : length body ≡ end + 10 = ap length (sym same) ∙ all in
-      let p : r₅ ≡ placed r₀ 0 body =
+      let size : length ((((a ++ b) ++ c) ++ d) ++ e) ≡ end + 10 = omega (arith, length-append (((a ++ b) ++ c) ++ d) e) in
+      let same : (((a ++ b) ++ c) ++ d) ++ e ≡ all = five a b c d e ∙ body-is in
+      let p : r₅ ≡ placed r₀ 0 all =
       placed-behind r₀ r₄ r₅ (((a ++ b) ++ c) ++ d) e 0 end (omega arith) (omega arith)
       (placed-behind r₀ r₃ r₄ ((a ++ b) ++ c) d 0 (268 + 6 * n + 2 * held) (omega arith) (omega arith)
       (placed-behind r₀ r₂ r₃ (a ++ b) c 0 (268 + 2 * n + 2 * held) (omega arith) (omega arith)
       (placed-behind r₀ r₁ r₂ a b 0 12 (omega arith) (omega arith) e₁ e₂) e₃) e₄) e₅
       ∙ ap (placed r₀ 0) same in
-      let before : take (end + 10) r₅ ≡ body = ap (take (end + 10)) (p ∙ placed-front r₀ body) ∙ take-at body (drop (length body) r₀) (end + 10) long in
-      placed-behind r₀ r₅ r₆ body (bytes16 (checkWord (words body))) 0 (end + 10) (omega arith) (omega arith) p
-      (e₆ ∙ ap (λ (l : List ℕ). placed r₅ (end + 10) (bytes16 (checkWord (words l)))) before)
-      ∙ ap (placed r₀ 0) image-is
-      ∙ placed-front r₀ (listImage t def)
+      ended (edition t) v (start t) (classOf t) (labels t) r₀ r₅ r₆ (end + 10) (ap length (sym same) ∙ size) (omega arith) p e₆

@@ -1,5 +1,4 @@
-pub mod Behind
-pub mod Laid
+pub mod Front
 pub mod Rows
 pub mod Pieces
 pub mod Counted

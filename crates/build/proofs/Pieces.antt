@@ -5,24 +5,19 @@ use mathlib.Core.List.{List, [], _++_}
 use Prim.Native.Nat.{ℕ, _+_, _*_, _≤_}
 use native.Mathlib.Omega.{arith}
 use lib.ListN.{length, take, drop, length-append}
-use lib.Seq.{take-at}
 use Rattle.paper.specs.Below.{each, list}
 use Rattle.paper.specs.Words.{bytes16, Bytes}
 use Rattle.paper.specs.Table.{edition, states, classOf, labels, behind, next}
 use Rattle.paper.specs.Image.{defaultFrom}
 use Rattle.paper.specs.Results.{labelBytes}
 use Rattle.paper.proofs.Labels.{behind-held}
-use Rattle.trips.proofs.Spans.{Spans, spans-then, length-each}
+use Rattle.trips.proofs.Spans.{spans-then, part-taken, length-each}
 use Rattle.trips.proofs.Numbers.{back-bytes, length-bytes}
 use Rattle.trips.proofs.LabelBytes.{back-labels, length-labels}
 use Rattle.words.specs.Placed.{placed}
 use Rattle.words.proofs.Placed.{placed-nothing}
 use Rattle.tally.specs.Kept.{kept}
 use Rattle.build.specs.Pieces.{classesAndLabels, listedRecord, keptEntry}
-
--- So many bytes from a place on are the part that stands there, if it is so long.
-part-taken : {b part : List ℕ} {x z : ℕ} (w : ℕ) → Spans b x part z → length part ≡ w → take w (drop x b) ≡ part
-part-taken {b} {part} {z} w h e = ap (take w) (h .cut) ∙ take-at part (drop z b) w e
 
 -- The classes and labels take 256 bytes, two for each state, and two for each label behind the counts.
 pub length-labelled : (t : List ℕ) → length (classesAndLabels t) ≡ 256 + 2 * states t + 2 * behind t

@@ -25,7 +25,7 @@ fn image_into(
     let counts = tally::counts_of(t, n, k, def);
     let m = tally::sum_of(&counts, n);
     let held = labels::behind(t, 262, n, words::get16(t, 0));
-    let whole = parts::image_length(n, m, held);
+    let whole = ending::image_length(n, m, held);
     if room.len() < whole as usize {
         return answers::not_built(16);
     }

@@ -1,14 +1,14 @@
 // Writes the image of a table with its defaults, part by part in their order.
 ghost use mathlib.Core.Path.{_≡_};
 ghost use mathlib.Core.List.{_++_};
-ghost use Prim.Native.Nat.{_+_, _*_, _%_, _≤_, _<_, _^_};
-ghost use lib.ListN.{length, take};
+ghost use Prim.Native.Nat.{_+_, _*_, _≤_, _<_};
+ghost use lib.ListN.{length};
 ghost use Rattle.paper.specs.Below.{each};
-ghost use Rattle.paper.specs.Words.{bytes16, words, checkWord};
+ghost use Rattle.paper.specs.Words.{bytes16};
 ghost use Rattle.paper.specs.Table.{edition, states, classes, start, classOf, behind};
 ghost use Rattle.paper.specs.View.{depthOf, worstOf};
 ghost use Rattle.paper.specs.Image.{imageLength};
-ghost use Rattle.paper.specs.Results.{front, trailer};
+ghost use Rattle.paper.specs.Results.{front};
 ghost use Rattle.paper.specs.Operations.{filled};
 ghost use Rattle.words.specs.Placed.{placed};
 ghost use Rattle.table.specs.Counted.{Counted};
@@ -117,34 +117,6 @@ fn put_entries(t: &[u8], n: usize, k: usize, def: &[u16; 512], room: &mut [u8], 
     here
 }
 
-// The length of an image.
-pub fn image_length(n: usize, m: u32, held: usize) -> u32
-    requires { ⌜ (n ≤ 512) × (m ≤ 131072) × (held ≤ 8192) ⌝ }
-    ensures { λ r. ⌜ r ≡ imageLength n m held ⌝ }
-{
-    280 + 6 * n as u32 + 2 * held as u32 + 4 * m
-}
-
-// Writes the trailer but for the check word: distance back, whole length, worst.
-fn put_trailer(n: usize, m: u32, held: usize, worst: u16, room: &mut [u8], at: usize)
-    requires { ⌜ (n ≤ 512) × (m ≤ 131072) × (held ≤ 8192) × (at + 10 ≤ length (now room)) ⌝ }
-    ensures { λ _. ⌜ now (room .exit) ≡ placed (now (room .entry)) at (trailer n m held worst) ⌝ }
-{
-    words::put32(room, at, 4 * m + 12);
-    let whole = image_length(n, m, held);
-    words::put32(room, at + 4, whole);
-    words::put16(room, at + 8, worst);
-}
-
-// Writes behind the bytes before it their check word.
-fn put_check(room: &mut [u8], at: usize)
-    requires { ⌜ (at + 2 ≤ length (now room)) × (at % 2 ≡ 0) × (at < 2 ^ 32) ⌝ }
-    ensures { λ _. ⌜ now (room .exit) ≡ placed (now (room .entry)) at (bytes16 (checkWord (words (take at (now (room .entry)))))) ⌝ }
-{
-    let check = words::check_word(&room[..at]);
-    words::put16(room, at, check);
-}
-
 // Writes the image of a table with its defaults, part by part.
 pub fn emit(
     t: &[u8],
@@ -166,6 +138,6 @@ pub fn emit(
     put_labels(t, n, held, room);
     put_records(def, counts, n, room, 268 + 2 * n + 2 * held);
     let end = put_entries(t, n, k, def, room, 268 + 6 * n + 2 * held);
-    put_trailer(n, m, held, worst, room, end);
-    put_check(room, end + 10);
+    ending::put_trailer(n, m, held, worst, room, end);
+    ending::put_check(room, end + 10);
 }

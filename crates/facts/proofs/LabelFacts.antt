@@ -36,6 +36,10 @@ pub record Labelled (e : Edition) (ls : List ℕ) : Type 0 where
 pub labelled-same : {e e′ : Edition} {ls ls′ : List ℕ} → e′ ≡ e → ls′ ≡ ls → Labelled e ls → Labelled e′ ls′
 labelled-same E q L = rw (E, q) L
 
+-- In another edition they are such where they are not too many for it.
+pub labelled-other : {e : Edition} {ls : List ℕ} (e′ : Edition) → length ls ≤ mostLabels e′ → Labelled e ls → Labelled e′ ls
+labelled-other e′ h L = record { few = h; above = L .above; rises = L .rises }
+
 -- A label's number gives such labels in edition 1.
 labelled-one : (x : ℕ) → Labelled one (labelList x)
 labelled-one zero = record { few = omega arith; above = λ j h. absurd (omega arith); rises = λ j h. absurd (omega arith) }

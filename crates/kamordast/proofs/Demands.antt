@@ -10,7 +10,7 @@ use lib.ListN.{length, take}
 use Rattle.paper.specs.Below.{sum, howMany, given}
 use Rattle.paper.specs.Words.{byteAt, Bytes}
 use Rattle.paper.specs.Refusals.{Ground, first}
-use Rattle.paper.specs.Labels.{two}
+use Rattle.paper.specs.Labels.{one, two}
 use Rattle.paper.specs.Table.{edition, states, classes, start}
 use Rattle.paper.specs.View.{stored, steps, look}
 use Rattle.paper.specs.Image as image
@@ -24,15 +24,15 @@ use Rattle.paper.specs.Roots.{pairsAt, GoesBefore}
 use Rattle.paper.specs.FallBack.{level}
 use Rattle.paper.specs.Defaults.{defaults}
 use Rattle.paper.specs.Reached.{LeadsTo, HasLevel}
-use Rattle.paper.specs.Operations.{judgeTable, judgeImage, result, Unchanged, building, compact, write, expand, scan, walk}
-use Rattle.paper.specs.Promises.{SameBuilt, JudgesTable, JudgesImage, Compacts, Writes, Expands, Scans, Walks, SameWalk}
-use Rattle.paper.specs.Sentences.{FirstOf, Ends, LongestChain, Serves, LargestHops, tableSentences, imageSentences, compactSentences, writeSentences, expandSentences, scanSentences, walkSentences}
+use Rattle.paper.specs.Operations.{judgeTable, judgeImage, result, Unchanged, building, compact, write, expand, forward, back, scan, walk}
+use Rattle.paper.specs.Promises.{SameBuilt, JudgesTable, JudgesImage, Compacts, Writes, Expands, MovesForward, MovesBack, Scans, Walks, SameWalk}
+use Rattle.paper.specs.Sentences.{FirstOf, Ends, LongestChain, Serves, LargestHops, tableSentences, imageSentences, compactSentences, writeSentences, expandSentences, forwardSentences, backSentences, scanSentences, walkSentences}
 use Rattle.paper.specs.Follows.{ScansLike}
 use Rattle.paper.specs.Altered.{Altered}
 use Rattle.paper.specs.Cases.{built, right, room, starred, requested, three}
 use Rattle.paper.proofs.Levels.{falling-levels}
 use Rattle.paper.proofs.Exact as exact
-use Rattle.paper.proofs.Determined as one
+use Rattle.paper.proofs.Determined as only
 use Rattle.paper.proofs.Cases as stars
 use Rattle.paper.proofs.Refused as refusing
 use Rattle.facts.proofs.TableFacts.{accepted-table}
@@ -47,10 +47,13 @@ use Rattle.levels.proofs.Payloads as reached
 use Rattle.trips.proofs.ExpandsBack as expands
 use Rattle.trips.proofs.WritesBack as writes
 use Rattle.trips.proofs.EditionKept as editions
+use Rattle.trips.proofs.MovesBack as returns
+use Rattle.moves.proofs.Left as moves
 use Rattle.scan.proofs.Hops as hops
 use Rattle.walk.proofs.Hopless as hopless
 use Rattle.nearing.proofs.Scan as nearing
 use Rattle.kamordast.proofs.Scanned as scanned
+use Rattle.kamordast.proofs.MovedScans as moved
 use Rattle.kamordast.proofs.Left as left
 use Rattle.kamordast.proofs.Compacted as compacted
 use Rattle.kamordast.proofs.Fewest as least
@@ -61,6 +64,8 @@ pub refusals-exact : ((t : List ℕ) (number : ℕ) → judgeTable t ≡ number 
     × ((t : List ℕ) (order D : ℕ) (room : List ℕ) (number : ℕ) → compact t order D room .number ≡ number ↔ FirstOf (compactSentences t order D (length room)) number)
     × ((t ds room : List ℕ) (number : ℕ) → write t ds room .number ≡ number ↔ FirstOf (writeSentences t ds (length room)) number)
     × ((b room : List ℕ) (number : ℕ) → expand b room .number ≡ number ↔ FirstOf (expandSentences b (length room)) number)
+    × ((b room : List ℕ) (number : ℕ) → forward b room .number ≡ number ↔ FirstOf (forwardSentences b (length room)) number)
+    × ((b room : List ℕ) (number : ℕ) → back b room .number ≡ number ↔ FirstOf (backSentences b (length room)) number)
     × ((b : List ℕ) (s : ℕ) (payload room : List ℕ) (number : ℕ) → scan b s payload room .number ≡ number ↔ FirstOf (scanSentences b s payload) number)
     × ((t : List ℕ) (s : ℕ) (payload room : List ℕ) (number : ℕ) → walk t s payload room .number ≡ number ↔ FirstOf (walkSentences t s payload) number)
 refusals-exact = (
@@ -69,6 +74,8 @@ refusals-exact = (
   exact.compact-exact,
   exact.write-exact,
   exact.expand-exact,
+  exact.forward-exact,
+  exact.back-exact,
   exact.scan-exact,
   exact.walk-exact,
 )
@@ -77,11 +84,21 @@ refusals-exact = (
 pub refused-unchanged : ((t : List ℕ) (order D : ℕ) (room : List ℕ) → ¬ (compact t order D room .number ≡ 0) → Unchanged (compact t order D room) room)
     × ((t ds room : List ℕ) → ¬ (write t ds room .number ≡ 0) → Unchanged (write t ds room) room)
     × ((b room : List ℕ) → ¬ (expand b room .number ≡ 0) → Unchanged (expand b room) room)
+    × ((b room : List ℕ) → ¬ (forward b room .number ≡ 0) → Unchanged (forward b room) room)
+    × ((b room : List ℕ) → ¬ (back b room .number ≡ 0) → Unchanged (back b room) room)
     × ((b : List ℕ) (s : ℕ) (payload room : List ℕ) → ¬ (scan b s payload room .number ≡ 0)
     → (scan b s payload room .taken ≡ 0) × (scan b s payload room .state ≡ 0) × (scan b s payload room .reports ≡ 0) × (scan b s payload room .hops ≡ 0) × (scan b s payload room .room ≡ room))
     × ((t : List ℕ) (s : ℕ) (payload room : List ℕ) → ¬ (walk t s payload room .number ≡ 0)
     → (walk t s payload room .taken ≡ 0) × (walk t s payload room .state ≡ 0) × (walk t s payload room .reports ≡ 0) × (walk t s payload room .hops ≡ 0) × (walk t s payload room .room ≡ room))
-refused-unchanged = (refusing.compact-refused, refusing.write-refused, refusing.expand-refused, refusing.scan-refused, refusing.walk-refused)
+refused-unchanged = (
+  refusing.compact-refused,
+  refusing.write-refused,
+  refusing.expand-refused,
+  refusing.forward-refused,
+  refusing.back-refused,
+  refusing.scan-refused,
+  refusing.walk-refused,
+)
 
 -- Of an accepted image every proper beginning is refused.
 pub prefix-refused : (b : List ℕ) (p : ℕ) → judgeImage b ≡ 0 → p < length b → ¬ (judgeImage (take p b) ≡ 0)
@@ -130,6 +147,26 @@ pub edition-kept : ((t ds room : List ℕ) → Bytes t → write t ds room .numb
     × ((t : List ℕ) (order D : ℕ) (room : List ℕ) → Bytes t → compact t order D room .number ≡ 0 → image.edition (result (compact t order D room)) ≡ edition t)
     × ((b room : List ℕ) → Bytes b → expand b room .number ≡ 0 → edition (result (expand b room)) ≡ image.edition b)
 edition-kept = (editions.write-keeps-edition, editions.compact-keeps-edition, editions.expand-keeps-edition)
+
+-- Back of what forward leaves gives back the image, byte for byte.
+pub forward-back : (b room room′ : List ℕ) → Bytes b → forward b room .number ≡ 0 → length b ≤ length room′ → back (result (forward b room)) room′ ≡ building 0 b room′
+forward-back = returns.back-forwarded
+
+-- Forward of what back leaves gives back the image, byte for byte.
+pub back-forward : (b room room′ : List ℕ) → Bytes b → back b room .number ≡ 0 → length b ≤ length room′ → forward (result (back b room)) room′ ≡ building 0 b room′
+back-forward = returns.forward-backed
+
+-- What a move leaves is an accepted image of the other edition.
+pub moved-accepted : ((b room : List ℕ) → Bytes b → forward b room .number ≡ 0 → (judgeImage (result (forward b room)) ≡ 0) × (image.edition b ≡ one) × (image.edition (result (forward b room)) ≡ two))
+    × ((b room : List ℕ) → Bytes b → back b room .number ≡ 0 → (judgeImage (result (back b room)) ≡ 0) × (image.edition b ≡ two) × (image.edition (result (back b room)) ≡ one))
+moved-accepted = (moves.forward-left, moves.back-left)
+
+-- The scans of an image and of what a move leaves of it are the same: the number, the bytes taken, the state, the reports, the hops and every byte of the room, from every state, over every payload and with every room, refusals included.
+pub moved-scans : ((b room : List ℕ) → Bytes b → forward b room .number ≡ 0
+    → (s : ℕ) (payload reports : List ℕ) → Bytes payload → scan (result (forward b room)) s payload reports ≡ scan b s payload reports)
+    × ((b room : List ℕ) → Bytes b → back b room .number ≡ 0
+    → (s : ℕ) (payload reports : List ℕ) → Bytes payload → scan (result (back b room)) s payload reports ≡ scan b s payload reports)
+moved-scans = (moved.forward-scans, moved.back-scans)
 
 -- Any judge that begins with the first two grounds of the first edition, which takes the whole first word for n, refuses every accepted image of edition 2 with 2, whatever it tests afterwards.
 pub first-edition-refuses : (b : List ℕ) (others : List Ground) → judgeImage b ≡ 0 → image.edition b ≡ two → first (firstLoaderGrounds b ++ others) ≡ 2
@@ -245,18 +282,22 @@ pub determined : ((t : List ℕ) (n n′ : ℕ) → JudgesTable t n → JudgesTa
     × ((t : List ℕ) (order D : ℕ) (room : List ℕ) (n l n′ l′ : ℕ) (r r′ : List ℕ) → Compacts t order D room n l r → Compacts t order D room n′ l′ r′ → SameBuilt n l r n′ l′ r′)
     × ((t ds room : List ℕ) (n l n′ l′ : ℕ) (r r′ : List ℕ) → Writes t ds room n l r → Writes t ds room n′ l′ r′ → SameBuilt n l r n′ l′ r′)
     × ((b room : List ℕ) (n l n′ l′ : ℕ) (r r′ : List ℕ) → Expands b room n l r → Expands b room n′ l′ r′ → SameBuilt n l r n′ l′ r′)
+    × ((b room : List ℕ) (n l n′ l′ : ℕ) (r r′ : List ℕ) → MovesForward b room n l r → MovesForward b room n′ l′ r′ → SameBuilt n l r n′ l′ r′)
+    × ((b room : List ℕ) (n l n′ l′ : ℕ) (r r′ : List ℕ) → MovesBack b room n l r → MovesBack b room n′ l′ r′ → SameBuilt n l r n′ l′ r′)
     × ((b : List ℕ) (s : ℕ) (payload room : List ℕ) (n t q k h n′ t′ q′ k′ h′ : ℕ) (r r′ : List ℕ)
     → Scans b s payload room n t q k h r → Scans b s payload room n′ t′ q′ k′ h′ r′ → (n ≡ n′) × (t ≡ t′) × (q ≡ q′) × (k ≡ k′) × (h ≡ h′) × (r ≡ r′))
     × ((b : List ℕ) (s : ℕ) (payload room : List ℕ) (n t q k h n′ t′ q′ k′ h′ : ℕ) (r r′ : List ℕ)
     → Walks b s payload room n t q k h r → Walks b s payload room n′ t′ q′ k′ h′ r′ → (n ≡ n′) × (t ≡ t′) × (q ≡ q′) × (k ≡ k′) × (h ≡ h′) × (r ≡ r′))
 determined = (
-  one.judge-table-determined,
-  one.judge-image-determined,
-  one.compact-determined,
-  one.write-determined,
-  one.expand-determined,
-  one.scan-determined,
-  one.walk-determined,
+  only.judge-table-determined,
+  only.judge-image-determined,
+  only.compact-determined,
+  only.write-determined,
+  only.expand-determined,
+  only.forward-determined,
+  only.back-determined,
+  only.scan-determined,
+  only.walk-determined,
 )
 
 -- The starred cases, one table, are right; the table of three states compacted with any D has 322 bytes and no defaults; and the cases of the requests, another table, are right.

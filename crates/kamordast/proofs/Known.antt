@@ -12,12 +12,12 @@ use Rattle.paper.specs.Table.{edition, labels, next, tableGrounds}
 use Rattle.paper.specs.View.{stored, depthOf, worstOf, viewGrounds}
 use Rattle.paper.specs.Image as image
 use Rattle.paper.specs.Image.{imageGrounds}
-use Rattle.paper.specs.Results.{labelBytes, labelsHeld, recordBytes, entryBytes, front, trailer, parts, imageOfView, entriesOf, imageOf, tableFrom, tableOf}
+use Rattle.paper.specs.Results.{labelBytes, labelsHeld, recordBytes, entryBytes, front, trailer, parts, imageOfView, entriesOf, imageOf, moved, tableFrom, tableOf}
 use Rattle.paper.specs.Forest.{weight, singles, endNear, joined, d, longest, joinedLongest, addedOrDropped, pairs, neighbours, isRoot, root, pointsTo, forest, towardRoot}
 use Rattle.paper.specs.FallBack.{levels, towardStart}
 use Rattle.paper.specs.Defaults.{defaults}
 use Rattle.paper.specs.Scan.{scanOf, walkOf}
-use Rattle.paper.specs.Operations.{judgeTable, judgeImage, Built, compacted, compactGrounds, compact, writeGrounds, write, expandGrounds, expand, scanGrounds, scan, walkGrounds, walk}
+use Rattle.paper.specs.Operations.{judgeTable, judgeImage, Built, compacted, compactGrounds, compact, writeGrounds, write, expandGrounds, expand, forwardGrounds, forward, backGrounds, back, scanGrounds, scan, walkGrounds, walk}
 use Rattle.paper.specs.Cases.{T, T2, T-two, three, aabbb, room, Case, right, starred, requested}
 use Rattle.paper.proofs.Below.{and-true}
 use Rattle.paper.proofs.Cases.{pick-right, cases, requests}
@@ -144,18 +144,26 @@ pub bytes-T2 : Bytes T2
 unfolding compacted
 bytes-T2 = image-of-bytes T (defaults T 0 2) bytes-T
 
--- Cases that the paper does not star: the image of T with D 2 is accepted and expands into T, the rooms are filled, and "aaaaa" is scanned and walked.
+-- So is that image in edition 2.
+pub bytes-moved : Bytes (moved two T2)
+unfolding allBytes number16 number32 bytes16 bytes32 _⊕_ checkWord labelCount label labelsFrom labelsBehind labels next stored depthOf worstOf image.labels image.default image.count image.entryAt labelBytes labelsHeld recordBytes entryBytes front trailer parts imageOfView entriesOf imageOf moved weight singles endNear joined d longest joinedLongest addedOrDropped pairs neighbours isRoot root pointsTo forest towardRoot defaults compacted
+bytes-moved = bytes-tested (moved two T2) refl
+
+-- Cases that the paper does not star: the image of T with D 2 is accepted and expands into T, the rooms are filled, "aaaaa" is scanned and walked, and the image is moved there and back.
 abbrev more : List Case
 more =
     (judgeImage T2 ∷ expand T2 (room 294) .number ∷ [], 0 ∷ 0 ∷ [])
     ∷ (byteAt (compact T 0 2 (room 324) .room) 0 ∷ byteAt (write T toThree (room 324) .room) 0 ∷ [], 4 ∷ 4 ∷ [])
     ∷ (byteAt (expand T2 (room 294) .room) 0 ∷ expand T2 (room 294) .resultLength ∷ [], 4 ∷ 294 ∷ [])
     ∷ (scan T2 0 aaaaa (room 12) .state ∷ scan T2 0 aaaaa (room 12) .hops ∷ [], 1 ∷ 4 ∷ [])
-    ∷ (walk T 0 aaaaa (room 12) .state ∷ [], 1 ∷ []) ∷ []
+    ∷ (walk T 0 aaaaa (room 12) .state ∷ [], 1 ∷ [])
+    ∷ (forward T2 (room 328) .number ∷ byteAt (forward T2 (room 328) .room) 0 ∷ [], 0 ∷ 4 ∷ [])
+    ∷ (back (moved two T2) (room 324) .number ∷ byteAt (back (moved two T2) (room 324) .room) 0 ∷ [], 0 ∷ 4 ∷ [])
+    ∷ []
 
 -- They are right, by computation.
 more-right : right more ≡ true
-unfolding number16 number32 bytes16 bytes32 _⊕_ checkWord labelCount label labelsFrom labelsBehind labels next tableGrounds stored depthOf worstOf viewGrounds image.labels image.default image.count image.entryAt imageGrounds labelBytes labelsHeld recordBytes entryBytes front trailer parts imageOfView entriesOf imageOf tableFrom tableOf weight singles endNear joined d longest joinedLongest addedOrDropped pairs neighbours isRoot root pointsTo forest towardRoot levels towardStart defaults scanOf judgeTable judgeImage compacted compactGrounds compact writeGrounds write expandGrounds expand scanGrounds scan walkOf walkGrounds walk
+unfolding number16 number32 bytes16 bytes32 _⊕_ checkWord labelCount label labelsFrom labelsBehind labels next tableGrounds stored depthOf worstOf viewGrounds image.labels image.default image.count image.entryAt imageGrounds labelBytes labelsHeld recordBytes entryBytes front trailer parts imageOfView entriesOf imageOf moved tableFrom tableOf weight singles endNear joined d longest joinedLongest addedOrDropped pairs neighbours isRoot root pointsTo forest towardRoot levels towardStart defaults scanOf judgeTable judgeImage compacted compactGrounds compact writeGrounds write expandGrounds expand forwardGrounds forward backGrounds back scanGrounds scan walkOf walkGrounds walk
 more-right = refl
 
 -- The image of T is accepted and can be expanded.
@@ -175,3 +183,10 @@ scan-aaaaa = heads (pick-right 3 more more-right)
 -- The walk of "aaaaa" ends in state 1.
 pub walk-aaaaa : walk T 0 aaaaa (room 12) .state ≡ 1
 walk-aaaaa = head (pick-right 4 more more-right)
+
+-- The image of T is moved forward, and back again; the rooms then begin with the first byte of n.
+pub forward-T : (forward T2 (room 328) .number ≡ 0) × (byteAt (forward T2 (room 328) .room) 0 ≡ 4)
+forward-T = heads (pick-right 5 more more-right)
+
+pub back-T : (back (moved two T2) (room 324) .number ≡ 0) × (byteAt (back (moved two T2) (room 324) .room) 0 ≡ 4)
+back-T = heads (pick-right 6 more more-right)

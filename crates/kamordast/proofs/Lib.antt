@@ -1,8 +1,10 @@
 pub mod Left
 pub mod Scanned
+pub mod MovedScans
 pub mod Transitions
 pub mod Compacted
 pub mod Fewest
 pub mod Known
 pub mod ShutOut
+pub mod ShutOutMoves
 pub mod Demands

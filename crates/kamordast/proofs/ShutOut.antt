@@ -9,7 +9,7 @@ use Rattle.paper.specs.Labels.{one}
 use Rattle.paper.specs.Image as image
 use Rattle.paper.specs.Operations.{Built, result, compact, write, expand, Scanned, scan, walk}
 use Rattle.paper.specs.Promises.{JudgesTable, JudgesImage, IsBuilt, IsScanned, Compacts, Writes, Expands, Scans, Walks}
-use Rattle.paper.specs.Handed.{ToJudge, ToCompact, ToWrite, ToExpand, ToRun}
+use Rattle.paper.specs.Handed.{ToJudge, ToCompact, ToWrite, ToConvert, ToRun}
 use Rattle.paper.specs.Cases.{T, T2, T-two, three, aabbb, room}
 use Rattle.paper.proofs.Editions.{one≢two}
 use Rattle.trips.proofs.EditionKept.{compact-keeps-edition}
@@ -31,11 +31,11 @@ judge-image-refuses-all p keeps wrong =
 -- A program p that keeps the promise of an operation that builds, on any inputs A, each with its room.
 module _ {A : Type 0} (roomOf : A → List ℕ) (operation p : A → Built) (keeps : (x : A) → IsBuilt (operation x) (p x .number) (p x .resultLength) (p x .room)) where
   -- It does not refuse everything, where the operation accepts something.
-  refuses-all : (x : A) → operation x .number ≡ 0 → ¬ ((x : A) → ¬ (p x .number ≡ 0))
+  pub refuses-all : (x : A) → operation x .number ≡ 0 → ¬ ((x : A) → ¬ (p x .number ≡ 0))
   refuses-all x e wrong = wrong x (keeps x .number-is ∙ e)
 
   -- It does not leave every room untouched, where the operation changes a room's first byte.
-  untouched : (x : A) (first : ℕ) → byteAt (operation x .room) 0 ≡ first → ¬ (byteAt (roomOf x) 0 ≡ first) → ¬ ((x : A) → p x .room ≡ roomOf x)
+  pub untouched : (x : A) (first : ℕ) → byteAt (operation x .room) 0 ≡ first → ¬ (byteAt (roomOf x) 0 ≡ first) → ¬ ((x : A) → p x .room ≡ roomOf x)
   untouched x first e n wrong = n (ap (λ (r : List ℕ). byteAt r 0) (sym (wrong x) ∙ keeps x .room-is) ∙ e)
 
   -- Two of its results that the operation makes of two lengths are not of one.
@@ -118,21 +118,21 @@ module _ (p : ToWrite → Built) (keeps : (x : ToWrite) → Writes (x .table) (x
       (λ z z′. wrong to-three z ∙ sym (wrong going-down z′))
 
 -- A program p that keeps the promise of expand.
-module _ (p : ToExpand → Built) (keeps : (x : ToExpand) → Expands (x .image) (x .room) (p x .number) (p x .resultLength) (p x .room)) where
+module _ (p : ToConvert → Built) (keeps : (x : ToConvert) → Expands (x .image) (x .room) (p x .number) (p x .resultLength) (p x .room)) where
   -- Expand itself.
-  abbrev expanding : ToExpand → Built
+  abbrev expanding : ToConvert → Built
   expanding x = expand (x .image) (x .room)
 
   -- The image of T with D 2.
-  abbrev image-T : ToExpand
+  abbrev image-T : ToConvert
   image-T = record { image = T2; room = room 294; image-bytes = known.bytes-T2; room-bytes = known.bytes-room 294 }
 
   -- It does not refuse everything.
-  pub expand-refuses-all : ¬ ((x : ToExpand) → ¬ (p x .number ≡ 0))
+  pub expand-refuses-all : ¬ ((x : ToConvert) → ¬ (p x .number ≡ 0))
   expand-refuses-all = refuses-all (λ x. x .room) expanding p keeps image-T (known.expand-T .1)
 
   -- It does not leave every room untouched.
-  pub expand-untouched : ¬ ((x : ToExpand) → p x .room ≡ x .room)
+  pub expand-untouched : ¬ ((x : ToConvert) → p x .room ≡ x .room)
   expand-untouched = untouched (λ x. x .room) expanding p keeps image-T 4 (known.filled-rooms .2) (λ e. absurd (omega arith))
 
 -- A program p that keeps the promise of an operation that runs a payload, and rules on which the operation is known.

@@ -8,6 +8,8 @@ pub use expand::expand;
 pub use image::Fallback;
 pub use image::Record;
 pub use judge::judge_image;
+pub use moves::back;
+pub use moves::forward;
 pub use scan::scan;
 pub use table::judge_table;
 pub use view::Counts;
@@ -18,7 +20,7 @@ pub use view::open;
 pub use view::record_from;
 pub use view::record_of;
 pub use walk::walk;
-ghost use Rattle.paper.specs.Promises.{JudgesTable, JudgesImage, Writes, Compacts, Expands, Scans, Walks};
+ghost use Rattle.paper.specs.Promises.{JudgesTable, JudgesImage, Writes, Compacts, Expands, MovesForward, MovesBack, Scans, Walks};
 
 // Judges a plain table: 0, or the refusal's number.
 #[no_mangle]
@@ -71,6 +73,22 @@ pub extern "C" fn kamordast_expand(image: &[u8], room: &mut [u8]) -> Built
     ensures { λ r. ⌜ Expands (now (image .entry)) (now (room .entry)) (r .refused) (r .length) (now (room .exit)) ⌝ }
 {
     expand::expand(image, room)
+}
+
+// Moves an image of edition 1 into edition 2 at the front of the room.
+#[no_mangle]
+pub extern "C" fn kamordast_forward(image: &[u8], room: &mut [u8]) -> Built
+    ensures { λ r. ⌜ MovesForward (now (image .entry)) (now (room .entry)) (r .refused) (r .length) (now (room .exit)) ⌝ }
+{
+    moves::forward(image, room)
+}
+
+// Moves an image of edition 2 back into edition 1 at the front of the room.
+#[no_mangle]
+pub extern "C" fn kamordast_back(image: &[u8], room: &mut [u8]) -> Built
+    ensures { λ r. ⌜ MovesBack (now (image .entry)) (now (room .entry)) (r .refused) (r .length) (now (room .exit)) ⌝ }
+{
+    moves::back(image, room)
 }
 
 // Scans a payload from a state and writes its reports at the front of the room.

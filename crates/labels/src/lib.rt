@@ -15,14 +15,14 @@ pub fn states_of(word: u16) -> usize
     (word % 32768) as usize
 }
 
-// A count of labels is above 16.
-fn count_high(b: &[u8], at: usize, n: usize) -> bool
+// A count of labels is above the most that is allowed.
+pub fn count_above(b: &[u8], at: usize, n: usize, most: u16) -> bool
     requires { ⌜ at + 2 * n ≤ length (now b) ⌝ }
-    ensures { λ r. ⌜ r ≡ any n (λ s. ltb 16 (labelCount (now (b .entry)) at s)) ⌝ }
+    ensures { λ r. ⌜ r ≡ any n (λ s. ltb most (labelCount (now (b .entry)) at s)) ⌝ }
 {
     let mut s = 0;
     while s < n {
-        if 16 < words::get16(b, at + 2 * s) {
+        if most < words::get16(b, at + 2 * s) {
             return true;
         }
         s += 1;
@@ -41,7 +41,7 @@ pub fn counts_bad(b: &[u8], at: usize, n: usize, word: u16) -> bool
     if b.len() < at + 2 * n {
         return false;
     }
-    count_high(b, at, n)
+    count_above(b, at, n, 16)
 }
 
 // The sum of the counts.

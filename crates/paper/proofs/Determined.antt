@@ -3,7 +3,7 @@ use mathlib.Core.Path.{_≡_, sym, _∙_}
 use mathlib.Core.List.{List}
 use Prim.Native.Nat.{ℕ}
 use Rattle.paper.specs.Operations.{Built, Scanned}
-use Rattle.paper.specs.Promises.{IsBuilt, IsScanned, SameBuilt, JudgesTable, JudgesImage, Compacts, Writes, Expands, Scans, Walks}
+use Rattle.paper.specs.Promises.{IsBuilt, IsScanned, SameBuilt, JudgesTable, JudgesImage, Compacts, Writes, Expands, MovesForward, MovesBack, Scans, Walks}
 
 -- Two answers to one question are one.
 one : {A : Type 0} {x y z : A} → x ≡ z → y ≡ z → x ≡ y
@@ -45,6 +45,16 @@ write-determined t ds room = built-determined _
 pub expand-determined : (b room : List ℕ) (n l n′ l′ : ℕ) (r r′ : List ℕ)
     → Expands b room n l r → Expands b room n′ l′ r′ → SameBuilt n l r n′ l′ r′
 expand-determined b room = built-determined _
+
+-- Forward.
+pub forward-determined : (b room : List ℕ) (n l n′ l′ : ℕ) (r r′ : List ℕ)
+    → MovesForward b room n l r → MovesForward b room n′ l′ r′ → SameBuilt n l r n′ l′ r′
+forward-determined b room = built-determined _
+
+-- Back.
+pub back-determined : (b room : List ℕ) (n l n′ l′ : ℕ) (r r′ : List ℕ)
+    → MovesBack b room n l r → MovesBack b room n′ l′ r′ → SameBuilt n l r n′ l′ r′
+back-determined b room = built-determined _
 
 -- Scan.
 pub scan-determined : (b : List ℕ) (s : ℕ) (payload room : List ℕ) (n t q k h n′ t′ q′ k′ h′ : ℕ) (r r′ : List ℕ)

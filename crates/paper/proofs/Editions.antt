@@ -1,20 +1,35 @@
 -- The two editions, and the first word of a front: it gives the edition and n, and the edition and n give it.
 use mathlib.Core.Path.{_≡_, refl, sym, ap, ap₂, _∙_}
-use mathlib.Core.Bool.{Bool, true, false, cond, true≢false}
+use mathlib.Core.Bool.{Bool, true, false, cond, not, true≢false}
 use Prim.Native.Nat.{ℕ, _+_, _%_, _≤_, _<_}
 use native.Mathlib.Omega.{arith}
 use lib.Dec.{ltb}
 use borrow.Author.Tests.{lt-ltb, le-ltb, ltb-true, ltb-false}
-use Rattle.paper.specs.Labels.{Edition, one, two, editionOf, statesOf, firstWord}
-
--- The edition is the second.
-abbrev isTwo : Edition → Bool
-isTwo one = false
-isTwo two = true
+use Rattle.paper.specs.Labels.{Edition, one, two, editionOf, isTwo, statesOf, firstWord}
+use Rattle.paper.proofs.Tests.{Holds}
 
 -- The editions are two.
 pub one≢two : one ≡ two → ⊥
 one≢two e = true≢false (sym (ap isTwo e))
+
+-- An edition that is not 1.
+pub holds-not-one : (e : Edition) → Holds (isTwo e) (¬ (e ≡ one))
+holds-not-one one = (λ q. absurd (true≢false (sym q)), λ n. absurd (n refl))
+holds-not-one two = (λ q w. one≢two (sym w), λ n. refl)
+
+-- An edition that is not 2.
+pub holds-not-two : (e : Edition) → Holds (not (isTwo e)) (¬ (e ≡ two))
+holds-not-two one = (λ q. one≢two, λ n. refl)
+holds-not-two two = (λ q. absurd (true≢false (sym q)), λ n. absurd (n refl))
+
+-- Where the one test fails the edition is 1, where the other fails it is 2.
+pub not-two-one : (e : Edition) → isTwo e ≡ false → e ≡ one
+not-two-one one q = refl
+not-two-one two q = absurd (true≢false q)
+
+pub not-one-two : (e : Edition) → not (isTwo e) ≡ false → e ≡ two
+not-one-two one q = absurd (true≢false q)
+not-one-two two q = refl
 
 -- A word below 32768 is of edition 1.
 pub first-edition : (w : ℕ) → w < 32768 → editionOf w ≡ one

@@ -2,19 +2,22 @@
 use mathlib.Core.Path.{_≡_, refl, sym, _∙_}
 use mathlib.Core.Logic.{_↔_, inr}
 use mathlib.Core.List.{List}
-use Prim.Native.Nat.{ℕ, zero, suc, _*_}
+use Prim.Native.Nat.{ℕ, zero, suc, _*_, _<_}
+use lib.Dec.{ltb}
 use lib.ListN.{length}
 use Rattle.paper.specs.Below.{any, differ}
 use Rattle.paper.specs.Refusals.{Ground, first}
+use Rattle.paper.specs.Labels.{one, two}
 use Rattle.paper.specs.Table.{states, tableGrounds}
 use Rattle.paper.specs.View.{defaultBad, endless}
 use Rattle.paper.specs.Image as image
 use Rattle.paper.specs.Image.{imageGrounds}
-use Rattle.paper.specs.Results.{tableView, imageOf, tableOf}
+use Rattle.paper.specs.Results.{tableView, imageOf, moved, tableOf}
 use Rattle.paper.specs.Scan.{Run, scanOf, walkOf}
-use Rattle.paper.specs.Operations.{judgeTable, judgeImage, building, scanning, listed, compacted, compactGrounds, compact, writeGrounds, write, expandGrounds, expand, runGrounds, scanGrounds, scan, walkGrounds, walk}
-use Rattle.paper.specs.Sentences.{Sentence, FirstOf, DefaultWrong, Returns, tableSentences, imageSentences, compactSentences, writeSentences, expandSentences, runSentences, scanSentences, walkSentences}
+use Rattle.paper.specs.Operations.{judgeTable, judgeImage, building, scanning, listed, compacted, compactGrounds, compact, writeGrounds, write, expandGrounds, expand, forwardGrounds, forward, backGrounds, back, runGrounds, scanGrounds, scan, walkGrounds, walk}
+use Rattle.paper.specs.Sentences.{Sentence, FirstOf, DefaultWrong, Returns, tableSentences, imageSentences, compactSentences, writeSentences, expandSentences, forwardSentences, backSentences, runSentences, scanSentences, walkSentences}
 use Rattle.paper.proofs.Tests.{holds-less, holds-not-below, holds-differ, holds-or, holds-some}
+use Rattle.paper.proofs.Editions.{holds-not-one, holds-not-two}
 use Rattle.paper.proofs.Returns.{holds-returns}
 use Rattle.paper.proofs.Sentences.{Says, exact, says-append}
 use Rattle.paper.proofs.TableSays.{table-says}
@@ -95,6 +98,40 @@ unfolding expand
 expand-exact b room number =
     through (expandGrounds b (length room)) (expandSentences b (length room)) _ number (number-building (first (expandGrounds b (length room))) (tableOf b) room)
     (expand-says b (length room))
+
+forward-says : (b : List ℕ) (room : ℕ) → Says (forwardGrounds b room) (forwardSentences b room)
+unfolding forwardGrounds forwardSentences
+forward-says b room =
+    says-append (imageGrounds b) _ (imageSentences b) _ (image-says b)
+    (refl, holds-not-one (image.edition b), λ _. (refl, holds-less room (length (moved two b)), λ _. tt))
+
+-- Forward.
+pub forward-exact : (b room : List ℕ) (number : ℕ) → forward b room .number ≡ number ↔ FirstOf (forwardSentences b (length room)) number
+unfolding forward
+forward-exact b room number =
+    through (forwardGrounds b (length room)) (forwardSentences b (length room)) _ number (number-building (first (forwardGrounds b (length room))) (moved two b) room)
+    (forward-says b (length room))
+
+back-says : (b : List ℕ) (room : ℕ) → Says (backGrounds b room) (backSentences b room)
+unfolding backGrounds backSentences
+back-says b room =
+    let n = image.states b in
+    says-append (imageGrounds b) _ (imageSentences b) _ (image-says b) (
+      refl,
+      holds-not-two (image.edition b),
+      λ _. (
+        refl,
+        holds-some n (λ s. ltb 1 (length (image.labels b s))) (λ s. 1 < length (image.labels b s)) (λ s hs. holds-less 1 (length (image.labels b s))),
+        λ _. (refl, holds-less room (length (moved one b)), λ _. tt),
+      ),
+    )
+
+-- Back.
+pub back-exact : (b room : List ℕ) (number : ℕ) → back b room .number ≡ number ↔ FirstOf (backSentences b (length room)) number
+unfolding back
+back-exact b room number =
+    through (backGrounds b (length room)) (backSentences b (length room)) _ number (number-building (first (backGrounds b (length room))) (moved one b) room)
+    (back-says b (length room))
 
 run-says : (n s : ℕ) (payload : List ℕ) → Says (runGrounds n s payload) (runSentences n s payload)
 run-says n s payload = (refl, holds-not-below s n, λ _. (refl, holds-less 65536 (length payload), λ _. tt))

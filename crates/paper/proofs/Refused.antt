@@ -4,9 +4,10 @@ use mathlib.Core.List.{List}
 use Prim.Native.Nat.{ℕ, zero, suc}
 use lib.ListN.{length}
 use Rattle.paper.specs.Refusals.{first}
-use Rattle.paper.specs.Results.{imageOf, tableOf}
+use Rattle.paper.specs.Labels.{one, two}
+use Rattle.paper.specs.Results.{imageOf, moved, tableOf}
 use Rattle.paper.specs.Scan.{Run, scanOf, walkOf}
-use Rattle.paper.specs.Operations.{Unchanged, building, scanning, filled, listed, compacted, compactGrounds, compact, writeGrounds, write, expandGrounds, expand, scanGrounds, scan, walkGrounds, walk}
+use Rattle.paper.specs.Operations.{Unchanged, building, scanning, filled, listed, compacted, compactGrounds, compact, writeGrounds, write, expandGrounds, expand, forwardGrounds, forward, backGrounds, back, scanGrounds, scan, walkGrounds, walk}
 use Rattle.paper.specs.Promises.{IsBuilt}
 
 -- A refusal answers its number and 0, and leaves the room.
@@ -37,6 +38,16 @@ write-refused t ds room = building-refused (first (writeGrounds t ds (length roo
 pub expand-refused : (b room : List ℕ) → ¬ (expand b room .number ≡ 0) → Unchanged (expand b room) room
 unfolding expand
 expand-refused b room = building-refused (first (expandGrounds b (length room))) (tableOf b) room
+
+-- Forward.
+pub forward-refused : (b room : List ℕ) → ¬ (forward b room .number ≡ 0) → Unchanged (forward b room) room
+unfolding forward
+forward-refused b room = building-refused (first (forwardGrounds b (length room))) (moved two b) room
+
+-- Back.
+pub back-refused : (b room : List ℕ) → ¬ (back b room .number ≡ 0) → Unchanged (back b room) room
+unfolding back
+back-refused b room = building-refused (first (backGrounds b (length room))) (moved one b) room
 
 scanning-refused : (number : ℕ) (r : Run) (room : List ℕ) → ¬ (scanning number r room .number ≡ 0)
     → (scanning number r room .taken ≡ 0) × (scanning number r room .state ≡ 0) × (scanning number r room .reports ≡ 0) × (scanning number r room .hops ≡ 0) × (scanning number r room .room ≡ room)

@@ -7,14 +7,15 @@ use lib.ListN.{length, replicate, take, drop}
 use Rattle.paper.specs.Below.{sum, list, or}
 use Rattle.paper.specs.Words.{bytes16, all16, bytes32, checkWord}
 use Rattle.paper.specs.Refusals.{first}
+use Rattle.paper.specs.Labels.{two}
 use Rattle.paper.specs.Table.{states}
 use Rattle.paper.specs.View.{Found, look}
 use Rattle.paper.specs.Image as image
 use Rattle.paper.specs.Image.{entries, depth, worst, imageView, firstLoaderGrounds}
-use Rattle.paper.specs.Results.{defaultNumber, imageOf}
+use Rattle.paper.specs.Results.{defaultNumber, imageOf, moved}
 use Rattle.paper.specs.Forest.{Trees, weight, singles, joined, root, lean, forest}
 use Rattle.paper.specs.FallBack.{level}
-use Rattle.paper.specs.Operations.{judgeTable, judgeImage, Built, compacted, compact, listed, write, expand, Scanned, scan, walk}
+use Rattle.paper.specs.Operations.{judgeTable, judgeImage, Built, compacted, compact, listed, write, expand, forward, back, Scanned, scan, walk}
 use Rattle.paper.specs.Programs.{boundsText, servedText}
 
 -- The classes of the bytes where 'a' is class x, 'b' class y and every other byte 0.
@@ -196,4 +197,7 @@ requested =
     ∷ (map (λ ls. judgeTable (labelled (2 ∷ 0 ∷ 0 ∷ 1 ∷ []) ls)) ((7 ∷ 7 ∷ 9 ∷ []) ∷ (7 ∷ 8 ∷ 0 ∷ []) ∷ (7 ∷ 8 ∷ 7 ∷ []) ∷ []), 19 ∷ 19 ∷ 0 ∷ [])
     ∷ (scanned (walk T-two 0 aabbb (room 12)), 0 ∷ 3 ∷ 2 ∷ 2 ∷ 0 ∷ (bytes32 2 ++ bytes16 7 ++ bytes32 2 ++ bytes16 8))
     ∷ (servedText (T2-two ++ aabbb), servedText (T2 ++ aabbb))
+    ∷ (built (forward T2 (room 328)), 0 ∷ 328 ∷ 5 ∷ 1 ∷ 1 ∷ 65535 ∷ 0 ∷ 0 ∷ 0 ∷ [])
+    ∷ (back (moved two T2) (room 324) .room, T2)
+    ∷ (forward T2-two (room 330) .number ∷ back T2 (room 324) .number ∷ back T2-two (room 324) .number ∷ back (moved two T2) (room 323) .number ∷ [], 20 ∷ 20 ∷ 21 ∷ 16 ∷ [])
     ∷ []

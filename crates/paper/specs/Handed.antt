@@ -28,8 +28,8 @@ pub record ToWrite : Type 0 where
   pub defaults-bytes : Bytes defaults
   pub room-bytes : Bytes room
 
--- To expand: an image and a room.
-pub record ToExpand : Type 0 where
+-- To expand or to move: an image and a room.
+pub record ToConvert : Type 0 where
   pub image : List ℕ
   pub room : List ℕ
   pub image-bytes : Bytes image

@@ -7,13 +7,13 @@ use Prim.Native.Nat.{ℕ, suc, _+_, _-_, _*_, _≤_, _<_}
 use lib.ListN.{length, take}
 use Rattle.paper.specs.Below.{sum}
 use Rattle.paper.specs.Words.{words, checkWord}
-use Rattle.paper.specs.Labels.{Edition, two, labelCount, label}
+use Rattle.paper.specs.Labels.{Edition, one, two, labelCount, label}
 use Rattle.paper.specs.Table as table
 use Rattle.paper.specs.Table.{tableLength}
 use Rattle.paper.specs.View.{View, stored, steps}
 use Rattle.paper.specs.Image as image
 use Rattle.paper.specs.Image.{imageLength, imageView}
-use Rattle.paper.specs.Results.{tableView, imageOf, tableOf}
+use Rattle.paper.specs.Results.{tableView, imageOf, moved, tableOf}
 use Rattle.paper.specs.Operations.{listed, compacted}
 
 -- A sentence: the refusal's number, and when it is given.
@@ -157,6 +157,19 @@ writeSentences t ds room =
 -- Expand: the image's, 16.
 unfoldable pub expandSentences : List ℕ → ℕ → List Sentence
 expandSentences b room = imageSentences b ++ ((16, room < length (tableOf b)) ∷ [])
+
+-- Forward: the image's, 20 (the image is not of edition 1), 16.
+unfoldable pub forwardSentences : List ℕ → ℕ → List Sentence
+forwardSentences b room = imageSentences b ++ ((20, ¬ (image.edition b ≡ one)) ∷ (16, room < length (moved two b)) ∷ [])
+
+-- Back: the image's, 20 (the image is not of edition 2), 21 (a state has more labels than one), 16.
+unfoldable pub backSentences : List ℕ → ℕ → List Sentence
+backSentences b room =
+    imageSentences b
+    ++ ((20, ¬ (image.edition b ≡ two))
+    ∷ (21, Some (image.states b) (λ s. 1 < length (image.labels b s)))
+    ∷ (16, room < length (moved one b))
+    ∷ [])
 
 -- A payload from a state, one of n: 14, 15.
 abbrev pub runSentences : ℕ → ℕ → List ℕ → List Sentence

@@ -3,6 +3,7 @@ pub mod Bytewise
 pub mod Prefix
 pub mod Rules
 pub mod Alike
+pub mod Equal
 pub mod Report
 pub mod Going
 pub mod GoesOn

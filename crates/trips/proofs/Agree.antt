@@ -21,6 +21,20 @@ pub record Agree (v w : View) : Type 0 where
   pub class-same : (s j : ℕ) → s < v .states → j < v .count s → v .entryClass s j ≡ w .entryClass s j
   pub next-same : (s j : ℕ) → s < v .states → j < v .count s → v .entryNext s j ≡ w .entryNext s j
 
+-- Then they agree the other way round.
+pub agree-back : (v w : View) → Agree v w → Agree w v
+agree-back v w S =
+    let down : (s : ℕ) → s < w .states → s < v .states = λ s h. omega (arith, S .states-same) in
+    let few : (s j : ℕ) (h : s < w .states) → j < w .count s → j < v .count s = λ s j h hj. omega (arith, S .count-same s (down s h)) in
+    record {
+      states-same = sym (S .states-same);
+      classes-same = sym (S .classes-same);
+      default-same = λ s h. sym (S .default-same s (down s h));
+      count-same = λ s h. sym (S .count-same s (down s h));
+      class-same = λ s j h hj. sym (S .class-same s j (down s h) (few s j h hj));
+      next-same = λ s j h hj. sym (S .next-same s j (down s h) (few s j h hj));
+    }
+
 -- Chains depend on the defaults only.
 pub chain-same : (v w : View) → Inside v → ((s : ℕ) → s < v .states → v .default s ≡ w .default s) → (left s : ℕ) → s < v .states → chain v left s ≡ chain w left s
 chain-same v w inside same zero s h = refl

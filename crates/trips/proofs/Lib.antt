@@ -20,7 +20,11 @@ pub mod Lengths
 pub mod ResultBytes
 pub mod DefaultsWritable
 pub mod Building
+pub mod Verdict
 pub mod Accepts
 pub mod ExpandsBack
 pub mod WritesBack
 pub mod EditionKept
+pub mod Moved
+pub mod Moves
+pub mod MovesBack

@@ -44,6 +44,10 @@ peel {b} f g {x} {z} y h e =
     let r : drop y b ≡ g ++ drop z b = behind b f (g ++ drop z b) x y w e in
     (record { cut = w ∙ ap (λ (l : List ℕ). f ++ l) (sym r) }, record { cut = r })
 
+-- So many bytes from a place on are the part that stands there, if it is so long.
+pub part-taken : {b part : List ℕ} {x z : ℕ} (w : ℕ) → Spans b x part z → length part ≡ w → take w (drop x b) ≡ part
+part-taken {b} {part} {z} w h e = ap (take w) (h .cut) ∙ take-at part (drop z b) w e
+
 -- A part from the beginning is the list's beginning.
 pub spans-take : {b f : List ℕ} {z : ℕ} → Spans b 0 f z → z ≤ length b → take z b ≡ f
 spans-take {b} {f} {z} h hz =

@@ -1,4 +1,6 @@
 pub mod Placed
+pub mod Behind
+pub mod Laid
 pub mod Written
 pub mod Sum
 pub mod Lent

@@ -17,12 +17,12 @@ add-if2 c = search needs
 returns-2 : tie.Need-returns-2
 returns-2 c = let a = c .before .before .before .args in second-cut (a .b .now) (a .at) (a .n) (a .word) (omega arith) (omega arith)
 
-count-high-requires : tie.Need-count-high-requires
-count-high-requires c κs = search needs
+count-above-requires : tie.Need-count-above-requires
+count-above-requires c κs = search needs
 
 returns-3 : tie.Need-returns-3
-returns-3 c = let a = c .before .before .before .before .args in second-counts (a .b .now) (a .at) (a .n) (a .word) (omega arith) (omega arith) (c .count-high .result) (c .count-high .ensures)
+returns-3 c = let a = c .before .before .before .before .args in second-counts (a .b .now) (a .at) (a .n) (a .word) (omega arith) (omega arith) (c .count-above .result) (c .count-above .ensures)
 
 pub counts-bad-spec : {M : Type 1} → statement M
 counts-bad-spec =
-    tie.close (tie.spec returns mul-if2 add-if2 returns-2 count-high-requires returns-3)
+    tie.close (tie.spec returns mul-if2 add-if2 returns-2 count-above-requires returns-3)

@@ -3,7 +3,7 @@ use mathlib.Core.Path.{_≡_, refl}
 use Prim.Native.Nat.{_-_, _≤_}
 use native.Mathlib.Omega.{arith}
 use Rattle.build.specs.Pieces.{keptRow}
-use Rattle.build.proofs.Laid.{Laid, laid-none, laid-room, laid-more}
+use Rattle.words.proofs.Laid.{Laid, laid-none, laid-room, laid-more}
 use Rattle.build.proofs.parts.put_entries.Statement.{statement}
 use Rattle.build.proofs.parts.put_entries.Tie as tie
 

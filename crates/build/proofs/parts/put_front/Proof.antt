@@ -7,7 +7,7 @@ use Rattle.paper.specs.Table.{edition, states}
 use Rattle.paper.proofs.Words.{number16-below}
 use Rattle.paper.proofs.Editions.{word-back}
 use Rattle.words.proofs.Lent.{fits-bytes}
-use Rattle.build.proofs.Behind.{front-placed}
+use Rattle.build.proofs.Front.{front-placed}
 use Rattle.build.proofs.parts.put_front.Statement.{statement}
 use Rattle.build.proofs.parts.put_front.Tie as tie
 

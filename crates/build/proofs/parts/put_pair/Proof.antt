@@ -1,7 +1,7 @@
 -- The two numbers stand one behind the other.
 use native.Mathlib.Omega.{arith}
 use borrow.Author.Needs.{needs}
-use Rattle.build.proofs.Behind.{pair-placed}
+use Rattle.words.proofs.Behind.{pair-placed}
 use Rattle.build.proofs.parts.put_pair.Statement.{statement}
 use Rattle.build.proofs.parts.put_pair.Tie as tie
 

@@ -3,7 +3,7 @@ use mathlib.Core.Path.{_≡_}
 use Prim.Native.Nat.{_+_, _-_, _*_, _≤_}
 use native.Mathlib.Omega.{arith}
 use Rattle.build.specs.Pieces.{listedRecord}
-use Rattle.build.proofs.Laid.{Laid, laid-none, laid-more}
+use Rattle.words.proofs.Laid.{Laid, laid-none, laid-more}
 use Rattle.build.proofs.Pieces.{length-records, length-record}
 use Rattle.build.proofs.parts.put_records.Statement.{statement}
 use Rattle.build.proofs.parts.put_records.Tie as tie

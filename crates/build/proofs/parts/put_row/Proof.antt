@@ -4,7 +4,7 @@ use Prim.Native.Nat.{_-_, _≤_}
 use native.Mathlib.Omega.{arith}
 use lib.ListN.{getD}
 use Rattle.build.specs.Pieces.{keptEntry}
-use Rattle.build.proofs.Laid.{Laid, laid-none, laid-room, laid-more}
+use Rattle.words.proofs.Laid.{Laid, laid-none, laid-room, laid-more}
 use Rattle.build.proofs.parts.put_row.Statement.{statement}
 use Rattle.build.proofs.parts.put_row.Tie as tie
 

@@ -1,4 +1,4 @@
--- The loop's invariant: none of the first s counts is above 16.
+-- The loop's invariant: none of the first s counts is above the most.
 use mathlib.Core.Path.{_≡_, refl, sym}
 use mathlib.Core.Bool.{Bool, false}
 use mathlib.Core.List.{List}
@@ -9,18 +9,18 @@ use borrow.Author.Tests.{lt-ltb, le-ltb}
 use Rattle.paper.specs.Below.{any}
 use Rattle.paper.specs.Labels.{labelCount}
 use Rattle.paper.proofs.Below.{any-more, any-found}
-use Rattle.labels.proofs.count_high.Statement.{statement}
-use Rattle.labels.proofs.count_high.Tie as tie
+use Rattle.labels.proofs.count_above.Statement.{statement}
+use Rattle.labels.proofs.count_above.Tie as tie
 
--- The count of state s is above 16.
-abbrev high : List ℕ → ℕ → ℕ → Bool
-high b at s = ltb 16 (labelCount b at s)
+-- The count of state s is above the most.
+abbrev high : List ℕ → ℕ → ℕ → ℕ → Bool
+high b at most s = ltb most (labelCount b at s)
 
 abbrev Inv-loop : tie.InvT-loop
-Inv-loop b at n s₀ s = (s ≤ n) × (any s (high b at) ≡ false)
+Inv-loop b at n most s₀ s = (s ≤ n) × (any s (high b at most) ≡ false)
 
 abbrev μ-loop : tie.MeasureT-loop
-μ-loop b at n s₀ s = n - s
+μ-loop b at n most s₀ s = n - s
 
 loop-holds : tie.Need-loop-holds Inv-loop μ-loop
 loop-holds c = (omega arith, refl)
@@ -39,7 +39,7 @@ unfolding labelCount
 returns c =
     let l = c .before .before .before in
     let a = l .before .before .args in
-    sym (any-found (a .n) (l .loop .s) (high (a .b .now) (a .at)) (omega arith) (lt-ltb 16 (labelCount (a .b .now) (a .at) (l .loop .s)) (omega arith)))
+    sym (any-found (a .n) (l .loop .s) (high (a .b .now) (a .at) (a .most)) (omega arith) (lt-ltb (a .most) (labelCount (a .b .now) (a .at) (l .loop .s)) (omega arith)))
 
 add-s : tie.Need-add-s Inv-loop μ-loop
 add-s c = omega arith
@@ -52,13 +52,13 @@ unfolding labelCount
 loop-again c =
     let l = c .before .before .before in
     let a = l .before .before .args in
-    (omega arith, any-more (l .loop .s) (high (a .b .now) (a .at)) (l .loop .inv .1) (le-ltb 16 (labelCount (a .b .now) (a .at) (l .loop .s)) (omega arith)))
+    (omega arith, any-more (l .loop .s) (high (a .b .now) (a .at) (a .most)) (l .loop .inv .1) (le-ltb (a .most) (labelCount (a .b .now) (a .at) (l .loop .s)) (omega arith)))
 
 returns-2 : tie.Need-returns-2 Inv-loop μ-loop
 returns-2 c = let all : c .before .loop .s ≡ c .before .before .before .args .n = omega arith in sym (rw all at (c .before .loop .inv .1))
 
-pub count-high-spec : {M : Type 1} → statement M
-count-high-spec =
+pub count-above-spec : {M : Type 1} → statement M
+count-above-spec =
     tie.close
     (tie.spec
     Inv-loop

@@ -1,9 +1,9 @@
 -- The three numbers stand one behind the other.
 use native.Mathlib.Omega.{arith}
 use borrow.Author.Needs.{needs}
-use Rattle.build.proofs.Behind.{trailer-placed}
-use Rattle.build.proofs.parts.put_trailer.Statement.{statement}
-use Rattle.build.proofs.parts.put_trailer.Tie as tie
+use Rattle.ending.proofs.Trailer.{trailer-placed}
+use Rattle.ending.proofs.put_trailer.Statement.{statement}
+use Rattle.ending.proofs.put_trailer.Tie as tie
 
 mul-put32 : tie.Need-mul-put32
 mul-put32 c = omega arith

@@ -6,8 +6,8 @@ use lib.Seq.{length-take-le}
 use borrow.Author.Needs.{needs}
 use Rattle.paper.specs.Words.{bytes16}
 use Rattle.words.specs.Placed.{placed}
-use Rattle.build.proofs.parts.put_check.Statement.{statement}
-use Rattle.build.proofs.parts.put_check.Tie as tie
+use Rattle.ending.proofs.put_check.Statement.{statement}
+use Rattle.ending.proofs.put_check.Tie as tie
 
 slice-reshare-prefix-check-word : tie.Need-slice-reshare-prefix-check-word
 slice-reshare-prefix-check-word c = omega arith

@@ -1,0 +1,4 @@
+pub mod Across
+pub mod Filled
+pub mod Verdict
+pub mod Left
