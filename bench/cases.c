@@ -6,6 +6,7 @@
 
 #include "hostile.h"
 #include "operations.h"
+#include "plain.h"
 #include "word_list.h"
 
 char case_name[96];
@@ -22,11 +23,15 @@ static void use_compacted(uint32_t order, uint32_t bound) {
     for (uint32_t s = 0; s < n; s++) memcpy(given.defaults + 2 * s, given.image + records_in(given.image) + 4 * s, 2);
 }
 
-/* The image of the table with the list. */
+/* The image of the table with the list, by plain C: write refuses those whose defaults are not worth their hops, and here they are asked for. */
 static void use_written(const char *name) {
+    uint16_t defaults[512];
+    plain_chains chains;
     given.defaults_length = 1024;
-    kamordast_built built = kamordast_write(given.table, given.table_length, given.defaults, 1024, given.image, sizeof given.image);
-    if (built.refused) fail("the table is refused", built.refused);
+    for (uint32_t s = 0; s < 512; s++) defaults[s] = (uint16_t)number16(given.defaults, 2 * s);
+    if (!plain_order(defaults, 512, &chains)) fail("the list has a circle", 0);
+    kamordast_built built = plain_image(given.table, given.table_length, defaults, &chains, given.image, sizeof given.image);
+    if (built.refused || kamordast_judge_image(given.image, built.length)) fail("the image is refused", built.refused);
     given.image_length = built.length;
     snprintf(case_name, sizeof case_name, "%s", name);
 }
@@ -113,6 +118,11 @@ void use_forward(void) {
     if (built.refused) fail("the image is refused", built.refused);
     memcpy(given.image, moved, built.length);
     given.image_length = built.length;
+}
+
+void use_unworthy(void) {
+    given.table_length = make_unworthy(given.table, given.defaults);
+    use_written("256 of 511 defaults not worth it");
 }
 
 void use_flat(void) {

@@ -29,6 +29,9 @@ void use_forward(void);
 /* The image of the same table and bound in another order; order 3 has no bound in its name. */
 void use_order(uint32_t order);
 
+/* An image of 512 states and 256 classes, every other of which falls to state 0 and shares one class with it, the others half. */
+void use_unworthy(void);
+
 /* Images of 512 states with 128 entries each, to judge: all states fall to the root; all in one chain. */
 void use_flat(void);
 void use_chain(void);

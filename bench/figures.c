@@ -81,6 +81,14 @@ static void random_row(const operation *o) {
     row(o);
 }
 
+/* Rewrite of both word lists and of the largest table of random rows, which have no default to drop, and of an image that has 256. */
+static void rewrite_rows(const operation *o) {
+    word_rows(o, 2);
+    random_row(o);
+    use_unworthy();
+    row(o);
+}
+
 /* A move on both word lists and on the largest table of random rows; back takes what forward makes of them. */
 static void move_rows(const operation *o, int second) {
     for (uint32_t k = 27; k <= 209; k += 182) {
@@ -173,6 +181,8 @@ int main(void) {
     random_row(&write_with_a_list);
     word_rows(&expand, 2);
     random_row(&expand);
+    rewrite_rows(&rewrite);
+    rewrite_rows(&rewrite_with_judging);
     move_rows(&forward, 0);
     move_rows(&forward_with_judging, 0);
     move_rows(&back, 1);

@@ -25,6 +25,13 @@ size_t make_flat(uint8_t *table, uint8_t *defaults) {
     return length;
 }
 
+size_t make_unworthy(uint8_t *table, uint8_t *defaults) {
+    size_t length = begin(table, defaults, 0);
+    for (uint32_t s = 0; s < n; s++)
+        for (uint32_t c = 0; c < k; c++) set16(table, place_of(s, c), c < (s % 2 ? 255u : 128u) ? s : 0);
+    return length;
+}
+
 size_t make_chain(uint8_t *table, uint8_t *defaults) {
     size_t length = begin(table, defaults, 1);
     for (uint32_t s = 0; s < n; s++)

@@ -9,7 +9,10 @@
 /* Ordinary: every state but the root stores 128 entries and falls to the root. */
 size_t make_flat(uint8_t *table, uint8_t *defaults);
 
-/* The same number of entries, but each state falls to the one before it: one chain of 511 steps. */
+/* The same, but that every other state stores 255 entries: its default shares one class with it and is not worth its hops. */
+size_t make_unworthy(uint8_t *table, uint8_t *defaults);
+
+/* The same number of entries as the first, but each state falls to the one before it: one chain of 511 steps. */
 size_t make_chain(uint8_t *table, uint8_t *defaults);
 
 /* One chain of states that store every class but one, and the byte of that one: 511 hops for each such byte, from state 511. */

@@ -41,6 +41,14 @@ static void write_c(void) { by_c.numbers = built(plain_write(TABLE, DEFAULTS, RO
 static void expand_archive(void) { by_archive.numbers = built(kamordast_expand(IMAGE, ROOM(by_archive))); }
 static void expand_c(void) { by_c.numbers = built(plain_expand(IMAGE, ROOM(by_c))); }
 
+static void rewrite_archive(void) { by_archive.numbers = built(kamordast_rewrite(IMAGE, ROOM(by_archive))); }
+static void rewrite_c(void) { by_c.numbers = built(plain_rewrite(IMAGE, ROOM(by_c))); }
+
+static void judge_and_rewrite_c(void) {
+    uint32_t refused = plain_judge_image(IMAGE);
+    by_c.numbers = refused ? answered(refused) : built(plain_rewrite(IMAGE, ROOM(by_c)));
+}
+
 static void forward_archive(void) { by_archive.numbers = built(kamordast_forward(IMAGE, ROOM(by_archive))); }
 static void forward_c(void) { by_c.numbers = built(plain_forward(IMAGE, ROOM(by_c))); }
 static void back_archive(void) { by_archive.numbers = built(kamordast_back(IMAGE, ROOM(by_archive))); }
@@ -102,6 +110,8 @@ const operation compact_toward = {"compact, order 3", compact_toward_archive, co
 const operation compact_toward_sparing = {"order 3, C sparing", compact_toward_archive, compact_toward_c_sparing, NULL, 0};
 const operation write_with_a_list = {"write", write_archive, write_c, NULL, 0};
 const operation expand = {"expand", expand_archive, expand_c, NULL, 0};
+const operation rewrite = {"rewrite, no judging", rewrite_archive, rewrite_c, judge_image_archive, 0};
+const operation rewrite_with_judging = {"rewrite", rewrite_archive, judge_and_rewrite_c, NULL, 0};
 const operation forward = {"forward, no judging", forward_archive, forward_c, judge_image_archive, 0};
 const operation forward_with_judging = {"forward", forward_archive, judge_and_forward_c, NULL, 0};
 const operation back = {"back, no judging", back_archive, back_c, judge_image_archive, 0};

@@ -1,5 +1,5 @@
 /* What the proved code is measured against: the same work in C, tuned by hand. Each operation answers as the archive's does, on acceptance and refusal
- * alike; only scan, walk and the moves take what was judged before. An operation of edition 1 knows that edition alone, so that it is compiled as it was before there was another; where edition 2
+ * alike; only scan, walk, rewrite and the moves take what was judged before. An operation of edition 1 knows that edition alone, so that it is compiled as it was before there was another; where edition 2
  * asks for other code it has a function of its own, `plain_second_...`. */
 #ifndef PLAIN_H
 #define PLAIN_H
@@ -79,6 +79,10 @@ void plain_toward(const uint8_t *table, size_t length, const uint8_t *weights, u
 kamordast_built plain_image(const uint8_t *table, size_t length, const uint16_t *defaults, const plain_chains *chains, uint8_t *room, size_t room_length);
 kamordast_built plain_second_image(const uint8_t *table, size_t length, const uint16_t *defaults, const plain_chains *chains, uint8_t *room, size_t room_length);
 
+/* The same of defaults that came in a list: 25 where one shares fewer than two classes with its state, or refusal 16. */
+kamordast_built plain_listed_image(const uint8_t *table, size_t length, const uint16_t *defaults, const plain_chains *chains, uint8_t *room, size_t room_length);
+kamordast_built plain_second_listed_image(const uint8_t *table, size_t length, const uint16_t *defaults, const plain_chains *chains, uint8_t *room, size_t room_length);
+
 uint32_t plain_judge_table(const uint8_t *table, size_t length);
 uint32_t plain_judge_image(const uint8_t *image, size_t length);
 kamordast_built plain_compact(const uint8_t *table, size_t length, uint32_t order, uint32_t bound, int seeking, uint8_t *room, size_t room_length);
@@ -94,6 +98,9 @@ kamordast_built plain_second_expand(const uint8_t *image, size_t length, uint8_t
 /* An accepted image of edition 1 into edition 2, and of edition 2 back: each takes both, to refuse one of them. */
 kamordast_built plain_forward(const uint8_t *image, size_t length, uint8_t *room, size_t room_length);
 kamordast_built plain_back(const uint8_t *image, size_t length, uint8_t *room, size_t room_length);
+
+/* An accepted image of either edition without the defaults that share fewer than two classes with their states. */
+kamordast_built plain_rewrite(const uint8_t *image, size_t length, uint8_t *room, size_t room_length);
 
 /* The walk of a payload through an accepted image. */
 kamordast_scanned plain_scan(const uint8_t *image, size_t length, uint32_t state, const uint8_t *payload, size_t bytes, uint8_t *room, size_t room_length);

@@ -41,12 +41,20 @@ static uint8_t *put_row(const uint8_t *own, const uint8_t *other, size_t k, uint
     return entry;
 }
 
-/* Classes and labels stand in the image as in the table; edition 2 has more of them. */
-EACH_EDITION kamordast_built image_of(const uint8_t *table, size_t length, const uint16_t *defaults, const plain_chains *chains, uint8_t *room, size_t room_length, int second) {
+/* Ground 25: a state with a default keeps all entries or all but one, so it shares fewer than two classes with the default. */
+static int shares_few(const uint16_t *defaults, const uint16_t *counts, size_t n, size_t k) {
+    int few = 0;
+    for (size_t s = 0; s < n; s++) few |= defaults[s] != 65535 && counts[s] + 2u > k;
+    return few;
+}
+
+/* Classes and labels stand in the image as in the table; edition 2 has more of them. Where a list is written 25 is tested too. */
+EACH_EDITION kamordast_built image_of(const uint8_t *table, size_t length, const uint16_t *defaults, const plain_chains *chains, uint8_t *room, size_t room_length, int second, int listed) {
     size_t n = second ? plain_states(table) : plain_number16(table), k = plain_number16(table + 2), m = 0, labels = second ? length - 262 - 2 * n - 2 * n * k : 0;
     const uint8_t *rows = table + length - 2 * n * k;
     uint16_t counts[512];
     uint32_t worst = tally(rows, chains, n, k, counts);
+    if (listed && shares_few(defaults, counts, n, k)) return (kamordast_built){25, 0};
     for (size_t s = 0; s < n; s++) m += counts[s];
     size_t whole = 280 + 6 * n + labels + 4 * m;
     if (room_length < whole) return (kamordast_built){16, 0};
@@ -68,9 +76,17 @@ EACH_EDITION kamordast_built image_of(const uint8_t *table, size_t length, const
 }
 
 kamordast_built plain_image(const uint8_t *table, size_t length, const uint16_t *defaults, const plain_chains *chains, uint8_t *room, size_t room_length) {
-    return image_of(table, length, defaults, chains, room, room_length, 0);
+    return image_of(table, length, defaults, chains, room, room_length, 0, 0);
 }
 
 kamordast_built plain_second_image(const uint8_t *table, size_t length, const uint16_t *defaults, const plain_chains *chains, uint8_t *room, size_t room_length) {
-    return image_of(table, length, defaults, chains, room, room_length, 1);
+    return image_of(table, length, defaults, chains, room, room_length, 1, 0);
+}
+
+kamordast_built plain_listed_image(const uint8_t *table, size_t length, const uint16_t *defaults, const plain_chains *chains, uint8_t *room, size_t room_length) {
+    return image_of(table, length, defaults, chains, room, room_length, 0, 1);
+}
+
+kamordast_built plain_second_listed_image(const uint8_t *table, size_t length, const uint16_t *defaults, const plain_chains *chains, uint8_t *room, size_t room_length) {
+    return image_of(table, length, defaults, chains, room, room_length, 1, 1);
 }

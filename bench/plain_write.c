@@ -1,4 +1,4 @@
-/* Write in C: the table's grounds, 8 for the list, 11, then the image of the table with the list. */
+/* Write in C: the table's grounds, 8 for the list, 11, then the image of the table with the list, or 25. */
 #include "plain.h"
 
 EACH_EDITION kamordast_built written(const uint8_t *table, size_t length, const uint8_t *list, size_t list_length, uint8_t *room, size_t room_length, int second) {
@@ -12,7 +12,7 @@ EACH_EDITION kamordast_built written(const uint8_t *table, size_t length, const 
     for (size_t s = 0; s < n; s++)
         if (defaults[s] >= n && defaults[s] != 65535) return (kamordast_built){8, 0};
     if (!plain_order(defaults, n, &chains)) return (kamordast_built){11, 0};
-    return (second ? plain_second_image : plain_image)(table, length, defaults, &chains, room, room_length);
+    return (second ? plain_second_listed_image : plain_listed_image)(table, length, defaults, &chains, room, room_length);
 }
 
 kamordast_built plain_write(const uint8_t *table, size_t length, const uint8_t *list, size_t list_length, uint8_t *room, size_t room_length) {

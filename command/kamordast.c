@@ -21,6 +21,7 @@ static const char help[] =
     "                                 the image of TABLE with path bound BOUND, 0 to 65535\n"
     "  write TABLE DEFAULTS IMAGE     the image of TABLE with a list of defaults, two bytes a state\n"
     "  expand IMAGE TABLE             the table of IMAGE\n"
+    "  rewrite IMAGE IMAGE            the first without its defaults that share fewer than two classes; says how many went and what it did\n"
     "  forward IMAGE IMAGE            the first, of edition 1, moved into edition 2 as the second\n"
     "  back IMAGE IMAGE               the first, of edition 2 with at most one label on a state, moved into edition 1\n"
     "  scan IMAGE PAYLOAD [STATE]     the reports of PAYLOAD, from STATE or the start state, a line for each label of an offset\n"
@@ -37,6 +38,7 @@ static const char help[] =
     "Example: kamordast served --sort words.image README.md\n"
     "Example: kamordast walk examples/words.table README.md\n"
     "Example: kamordast walk examples/endings.table README.md\n"
+    "Example: kamordast rewrite words.image words-new.image\n"
     "Example: kamordast forward words.image words-2.image\n"
     "Example: kamordast back words-2.image words-1.image\n"
     "Exit status: 0 done, 1 refused (the number and what to do on standard error), 2 usage, 3 file trouble, 4 a count that is not the scan's.\n"
@@ -119,6 +121,25 @@ static int expand(const char *image, const char *table) {
     return store(image, kamordast_expand(input, length, room, sizeof room), table, is_table);
 }
 
+/* How many states of an accepted image have a default. */
+static uint32_t defaults_in(const uint8_t *image, size_t length) {
+    uint32_t used = 0, n = states_of(image);
+    for (uint32_t s = 0; s < n; s++) used += number16(image, records_at(image, length) + 4 * s) != NO_STATE;
+    return used;
+}
+
+/* The image without the defaults that are not worth their hops, and a line of what that did. */
+static int rewrite(const char *from, const char *to) {
+    size_t length = read_file(from, input, LONGEST_IMAGE);
+    kamordast_built built = kamordast_rewrite(input, length, room, sizeof room);
+    int status = store(from, built, to, is_image);
+    if (status != DONE) return status;
+    uint32_t used = defaults_in(input, length), left = defaults_in(room, built.length);
+    printf("%u of %u defaults went; bytes %zu to %u, depth %u to %u, worst %u to %u\n", (unsigned)(used - left), (unsigned)used, length, (unsigned)built.length,
+           (unsigned)number16(input, 6), (unsigned)number16(room, 6), (unsigned)number16(input, length - 4), (unsigned)number16(room, built.length - 4));
+    return DONE;
+}
+
 /* What moves an image to the other edition. */
 typedef kamordast_built mover(const uint8_t *, size_t, uint8_t *, size_t);
 
@@ -154,13 +175,6 @@ static int walk(const char *table, const char *bytes, const char *state_word) {
     return reports(kamordast_judge_table, kamordast_walk, table, LONGEST_TABLE, bytes, state_word);
 }
 
-/* How many states of the image in the room have a default. */
-static uint32_t defaults_in(size_t length) {
-    uint32_t used = 0, n = states_of(room);
-    for (uint32_t s = 0; s < n; s++) used += number16(room, records_at(room, length) + 4 * s) != NO_STATE;
-    return used;
-}
-
 static int bounds(const char *table) {
     size_t length = read_file(table, input, LONGEST_TABLE);
     uint32_t refused = kamordast_judge_table(input, length);
@@ -170,7 +184,7 @@ static int bounds(const char *table) {
         kamordast_built built = kamordast_compact(input, length, (uint16_t)bound, room, sizeof room);
         if (built.refused) return refuse(table, built.refused);
         printf("%u %u %u %u %u %u\n", (unsigned)bound, (unsigned)number16(room, 6), (unsigned)number16(room, built.length - 4), (unsigned)number32(room, 8),
-               (unsigned)defaults_in(built.length), (unsigned)built.length);
+               (unsigned)defaults_in(room, built.length), (unsigned)built.length);
     }
     return DONE;
 }
@@ -226,6 +240,7 @@ static int run(int count, char **words) {
     }
     if (!strcmp(command, "write")) return count == 5 ? write_image(words[2], words[3], words[4]) : usage("write wants TABLE DEFAULTS IMAGE");
     if (!strcmp(command, "expand")) return count == 4 ? expand(words[2], words[3]) : usage("expand wants IMAGE TABLE");
+    if (!strcmp(command, "rewrite")) return count == 4 ? rewrite(words[2], words[3]) : usage("rewrite wants IMAGE IMAGE");
     if (!strcmp(command, "forward")) return count == 4 ? move(kamordast_forward, words[2], words[3]) : usage("forward wants IMAGE IMAGE");
     if (!strcmp(command, "back")) return count == 4 ? move(kamordast_back, words[2], words[3]) : usage("back wants IMAGE IMAGE");
     if (!strcmp(command, "scan"))

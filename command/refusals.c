@@ -25,11 +25,13 @@ static const struct {
     {"the state is not a state of this image or table", "begin in its own start state"},
     {"the payload has more than 65,536 bytes", "cut the payload and carry the state over from one scan or walk to the next"},
     {"the room for the result is too short", "give a larger room"},
-    {0, 0}, /* 17 is not used */
+    {0, 0}, /* 17 is not used; nor, so far, are 22 to 24 */
     {"there is no such order", "take order 0, 1, 2 or 3; where none is named it is 0"},
     {"a state has more than 16 labels, or a label that is 0 or not above the one before it", "it was built wrongly: send it back to the rules desk"},
     {"the image is of the edition that it was to be moved to", "it needs no move: load it as it is, or take the other direction; judge names the edition"},
     {"a state has more than one label, and edition 1 has room for one", "it cannot go back: ask the rules desk for a table with one rule on each state, or give the image to a board that takes edition 2"},
+    [25] = {"a default of the list shares fewer than two classes with its state and is not worth its hops",
+            "leave such states without a default (65535), or build with compact; an image that has such defaults stays good, and rewrite takes them out"},
 };
 
 static int known(uint32_t number) { return number < sizeof sheet / sizeof *sheet && sheet[number].meaning; }

@@ -1,4 +1,4 @@
-/* Kamordast: rule tables compacted into images, judged, expanded, moved across the editions, scanned and walked. Every function is proved to meet the definition paper.
+/* Kamordast: rule tables compacted into images, judged, expanded, rewritten, moved across the editions, scanned and walked. Every function is proved to meet the definition paper.
  *
  * A slice is a pointer and a length. The pointer is never null, not even for a length of 0, and a room overlaps no other slice. A caller that breaks this is
  * promised nothing.
@@ -14,7 +14,7 @@
 extern "C" {
 #endif
 
-/* Both formats come in two editions, and every function takes both; what compact, write and expand make is of their input's edition, and forward and back make the other. All numbers are little-endian. A
+/* Both formats come in two editions, and every function takes both; what compact, write, expand and rewrite make is of their input's edition, and forward and back make the other. All numbers are little-endian. A
  * table is n, k and the start state (16 bits each), 256 bytes with the class of each byte, the labels, and n rows of k next states. An image is n, k, start, depth (16 bits each) and m (32 bits),
  * the 256 classes, the labels, n records (default state or 65535, count of entries), m entries (class, next state) and a trailer of 12 bytes. The labels are, in
  *   edition 1: a label of 16 bits for each state, 0 for no rule. The first word is n, 1 to 512.
@@ -22,14 +22,14 @@ extern "C" {
  * docs/FORMATS.md has every byte of both. A loader that knows edition 1 only refuses an image of edition 2 with 2. */
 
 /* The largest table and the largest image that there are, of either edition: a room of so many bytes is always enough for expand, and for compact, write,
- * forward and back. */
+ * rewrite, forward and back. */
 #define KAMORDAST_LARGEST_TABLE 279814
 #define KAMORDAST_LARGEST_IMAGE 544024
 
 /* The most labels of a state: a room of 6 times so many bytes for each byte of a payload is always enough for its reports. */
 #define KAMORDAST_MOST_LABELS 16
 
-/* What compact, write, expand, forward and back answer: 0 or the refusal's number, and the length of the result in the room. */
+/* What compact, write, expand, rewrite, forward and back answer: 0 or the refusal's number, and the length of the result in the room. */
 typedef struct {
     uint32_t refused;
     uint32_t length;
@@ -59,12 +59,17 @@ kamordast_built kamordast_compact(const uint8_t *table, size_t table_length, uin
  * more hops than bytes. An order above 3 is refused with 18. */
 kamordast_built kamordast_compact_in_order(const uint8_t *table, size_t table_length, uint32_t order, uint16_t bound, uint8_t *room, size_t room_length);
 
-/* Writes a table with a list of defaults, 16 bits for each of the n states and 65535 for none, into an image at the front of the room. */
+/* Writes a table with a list of defaults, 16 bits for each of the n states and 65535 for none, into an image at the front of the room. A list in which a default shares fewer than two classes
+ * with its state, by the rows of the table, is refused with 25: such a default saves one entry at best and costs hops. Images that have one are still taken by every function. */
 kamordast_built kamordast_write(const uint8_t *table, size_t table_length, const uint8_t *defaults, size_t defaults_length, uint8_t *room,
                                 size_t room_length);
 
 /* Expands an image into its table at the front of the room. */
 kamordast_built kamordast_expand(const uint8_t *image, size_t image_length, uint8_t *room, size_t room_length);
+
+/* Rewrites an image without the defaults that share fewer than two classes with their states: each such state stores its whole row, every other default stays. Every scan takes the same bytes, reports the
+ * same and ends in the same state, and no state and byte cost more hops than before. The result can be longer than the image; without such a default it is the image, byte for byte. */
+kamordast_built kamordast_rewrite(const uint8_t *image, size_t image_length, uint8_t *room, size_t room_length);
 
 /* Moves an image of edition 1 into edition 2, at the front of the room: the label 0 becomes an empty list, any other a list of one. Nothing else changes but the whole length and the check word, so every
  * scan answers and reports the same. An image of edition 2 is refused with 20. */

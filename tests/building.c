@@ -1,4 +1,5 @@
-/* Write, expand and compact, in every order, against the independent reading: random tables of both editions and lists, valid and damaged, rooms exact, one short, longer and empty. */
+/* Write, expand and compact, in every order, against the independent reading: random tables of both editions and lists, valid, with defaults that are not worth their hops, and damaged; rooms exact, one short, longer
+ * and empty. */
 #include <string.h>
 
 #include "built.h"
@@ -23,14 +24,20 @@ static void round_trips(int rounds) {
         if (rounds > 1) length = either_edition(table, length);
         if (rounds == 0) length = make_second(table, length, 16);
         make_defaults(defaults, n, below(257));
+        reference_built written = reference_image(table, length, defaults, 2 * (size_t)n, image, sizeof image);
+        if (written.refused) fail("a table as it should be", cases);
+        /* A default that shares fewer than two classes is 25, in every room; without those the list is taken. */
+        uint64_t retired = given[25];
         size_t result = with_rooms(WRITE, table, length, 2 * (size_t)n, 0);
-        if (!result) fail("a table as it should be", cases);
-        reference_built written = reference_write(table, length, defaults, 2 * (size_t)n, image, sizeof image);
+        uint32_t gone = leave_worthy(defaults, table);
+        if ((result == 0) != (gone > 0) || given[25] != retired + (gone ? 2 : 0)) fail("25 just where a default shares fewer than two classes", cases);
+        if (gone && !with_rooms(WRITE, table, length, 2 * (size_t)n, 0)) fail("a list without such defaults", cases);
         with_rooms(EXPAND, image, written.length, 0, 0);
         kamordast_built back = kamordast_expand(image, written.length, wanted, sizeof wanted);
         if (back.refused || back.length != length || memcmp(wanted, table, length)) fail("expand does not give back the table", cases);
-        /* Damage in the list: values, a circle, the length. */
+        /* Damage in the list: values, a circle, the length; each comes before 25. */
         size_t list_length = 2 * (size_t)n;
+        if (below(2)) make_defaults(defaults, n, 256);
         switch (below(4)) {
         case 0: set16(defaults, 2 * below(n), below(3) ? n + below(3) : 65534); break;
         case 1: {
@@ -81,8 +88,20 @@ static void papers_cases(void) {
     set16(defaults, 0, 65535);
     set16(defaults, 2, 0);
     set16(defaults, 4, 1);
-    if (compared(WRITE, table, 280, 6, 0, 314) != 314) fail("the three states", 0);
+    /* Each of the two defaults shares one class, so write refuses the list in every room; the image that it had is still expanded, and rewritten to one of roots. */
+    uint64_t retired = given[25];
+    for (size_t room = 0; room <= 324; room++) compared(WRITE, table, 280, 6, 0, room);
+    if (given[25] != retired + 325) fail("the three states are 25 in every room", 0);
+    if (reference_image(table, 280, defaults, 6, wanted, sizeof wanted).length != 314) fail("the three states", 0);
     expect_image(314, 4, 2, 1, "the three states");
+    memcpy(image, wanted, 314);
+    if (compared(EXPAND, image, 314, 0, 0, 280) != 280 || memcmp(wanted, table, 280)) fail("the three states expanded", 0);
+    if (compared(REWRITE, image, 314, 0, 0, 322) != 322) fail("the three states rewritten", 0);
+    expect_image(322, 6, 0, 0, "the three states rewritten");
+    set16(defaults, 0, 2);
+    uint64_t circles = given[11];
+    compared(WRITE, table, 280, 6, 0, 400);
+    if (given[11] != circles + 1) fail("11 before 25", 0);
     for (uint32_t bound = 0; bound < 65536; bound += bound < 5 ? 1 : 13106)
         if (compared(COMPACT, table, 280, 0, bound, 322) != 322) fail("the three states with any D", bound);
     static const uint16_t eight[24] = {0};

@@ -7,11 +7,12 @@
 #include "kamordast.h"
 #include "old_loader.h"
 #include "reference/reference.h"
+#include "rewritten.h"
 #include "there_and_back.h"
 
 uint8_t table[LONGEST_TABLE], image[LONGEST_IMAGE], defaults[1100], wanted[LONGEST_IMAGE + 64];
 uint32_t order;
-uint64_t cases, given[22];
+uint64_t cases, given[26];
 
 /* How many results were of edition 2. */
 static uint64_t second;
@@ -46,6 +47,10 @@ size_t compared(enum operation o, const uint8_t *input, size_t length, size_t li
         right = reference_forward(input, length, wanted, room_length);
         answer = kamordast_forward(in, length, room, room_length);
         break;
+    case REWRITE:
+        right = reference_rewrite(input, length, wanted, room_length);
+        answer = kamordast_rewrite(in, length, room, room_length);
+        break;
     case BACK:
         right = reference_back(input, length, wanted, room_length);
         answer = kamordast_back(in, length, room, room_length);
@@ -64,7 +69,10 @@ size_t compared(enum operation o, const uint8_t *input, size_t length, size_t li
     if (memcmp(room, wanted, room_length)) fail("the room differs", cases);
     if (memcmp(in, input, length) || memcmp(list, defaults, list_length)) fail("a lent byte was changed", cases);
     if (answer.length && (edition_in(room) != edition_in(input)) != (o == FORWARD || o == BACK)) fail("the result is of the wrong edition", cases);
-    if (answer.length && o != EXPAND) there_and_back(room, answer.length, cases);
+    if (answer.length && o != EXPAND) {
+        there_and_back(room, answer.length, cases);
+        rewritten(room, answer.length, cases);
+    }
     /* That takes long for an image of edition 1, so one in ten of these is shown. */
     if (answer.length && o != EXPAND && (edition_in(room) == 2 || cases % 10 == 0)) old_loader(room, answer.length, 0, cases);
     second += answer.length && edition_in(room) == 2;
@@ -108,7 +116,7 @@ void expect_defaults(const uint16_t *falls, const char *name) {
 void say(const char *name) {
     if (!second) fail("no result was of edition 2", cases);
     printf("%s: %llu cases agree, with %llu results of edition 2\n  given  ", name, (unsigned long long)cases, (unsigned long long)second);
-    for (int r = 0; r < 22; r++)
+    for (int r = 0; r < 26; r++)
         if (given[r]) printf(" %d:%llu", r, (unsigned long long)given[r]);
     printf("\n");
 }

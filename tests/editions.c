@@ -7,6 +7,7 @@
 #include "kamordast.h"
 #include "old_loader.h"
 #include "reference/reference.h"
+#include "rewritten.h"
 #include "there_and_back.h"
 
 static uint8_t other[LONGEST_IMAGE];
@@ -21,6 +22,7 @@ static void image_is(const uint8_t *b, size_t length, uint32_t number, const cha
     if (reference_judge_image(b, length) != number || kamordast_judge_image(b, length) != number) fail(sentence, length);
     old_loader(b, length, number, cases);
     if (!number) there_and_back(b, length, cases);
+    if (!number) rewritten(b, length, cases);
     cases++;
 }
 

@@ -6,6 +6,7 @@
 #include "kamordast.h"
 #include "old_loader.h"
 #include "reference/reference.h"
+#include "rewritten.h"
 #include "support.h"
 #include "there_and_back.h"
 
@@ -27,6 +28,7 @@ static uint32_t judged(int as_image, const uint8_t *bytes, size_t length) {
     }
     if (as_image) old_loader(bytes, length, right, cases);
     if (as_image && !right) there_and_back(bytes, length, cases);
+    if (as_image && !right) rewritten(bytes, length, cases);
     (as_image ? given_to_images : given_to_tables)[right]++;
     cases++;
     return right;
@@ -58,7 +60,7 @@ static size_t some_image(void) {
     size_t length = some_table();
     uint32_t n = states_in(table);
     make_defaults(defaults, n, below(257));
-    reference_built built = reference_write(table, length, defaults, 2 * (size_t)n, image, sizeof image);
+    reference_built built = reference_image(table, length, defaults, 2 * (size_t)n, image, sizeof image);
     if (built.refused) fail("the reference refused its own table", cases);
     return built.length;
 }
@@ -124,7 +126,7 @@ static size_t small_image(int edition) {
     }
     uint16_t rows[4] = {0, 1, 1, 1};
     for (int i = 0; i < 4; i++) set16(table, small_table - 8 + 2 * (size_t)i, rows[i]);
-    reference_built built = reference_write(table, small_table, list, 4, image, sizeof image);
+    reference_built built = reference_image(table, small_table, list, 4, image, sizeof image);
     if (built.refused) fail("the small image", 0);
     return built.length;
 }
@@ -221,7 +223,7 @@ static void edges(int edition) {
     set16(table, 262, 0);
     set16(table, 264, 0);
     uint8_t none[2] = {255, 255};
-    reference_built built = reference_write(table, 266, none, 2, image, sizeof image);
+    reference_built built = reference_image(table, 266, none, 2, image, sizeof image);
     expect(built.refused, 0, "one state");
     set16(image, 270, 0);
     mend_check_word(image, built.length);
@@ -259,7 +261,7 @@ static void check_words(int rounds) {
     size_t length = make_table(table, 512, 256, 0);
     memset(table + 262, 255, 1024);
     memset(defaults, 255, 1024);
-    reference_built built = reference_write(table, length, defaults, 1024, image, sizeof image);
+    reference_built built = reference_image(table, length, defaults, 1024, image, sizeof image);
     expect(built.length, 527640, "the length of the largest image");
     expect(judged(1, image, built.length), 0, "the largest image");
     kamordast_built written = kamordast_write(table, length, defaults, 1024, other, sizeof other);

@@ -69,7 +69,7 @@ static void scanned(size_t length, size_t other_length) {
 
 /* The image of the table with the list of defaults. */
 static size_t written(size_t length) {
-    reference_built built = reference_write(table, length, defaults, 2 * (size_t)states_in(table), image, sizeof image);
+    reference_built built = reference_image(table, length, defaults, 2 * (size_t)states_in(table), image, sizeof image);
     if (built.refused) fail("the reference refused its own table", cases);
     return built.length;
 }

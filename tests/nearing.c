@@ -8,6 +8,7 @@
 #include "kamordast.h"
 #include "old_loader.h"
 #include "reference/reference.h"
+#include "rewritten.h"
 #include "support.h"
 #include "there_and_back.h"
 
@@ -23,6 +24,7 @@ static void use(size_t table_length) {
     length = built.length;
     old_loader(image, length, 0, cases);
     there_and_back(image, length, cases);
+    rewritten(image, length, cases);
     reference_levels(table, level);
 }
 

@@ -32,7 +32,7 @@ static FILE *file;
 static piece table, images[MOST_IMAGES];
 static size_t image_count;
 static uint32_t order; /* of the forest, in the rows that are made now */
-static uint64_t rows, rows_here, broken, cases, bound_decides, order_decides, given[20];
+static uint64_t rows, rows_here, broken, cases, bound_decides, order_decides, given[26];
 
 /* A field's text grows here until it is set in lines. */
 static char text[1 << 18], case_text[1 << 18];
@@ -173,7 +173,12 @@ static void writes(const uint8_t *list, size_t length, size_t room_length) {
     CASE("writes (");
     words_of(case_text, &case_used, list, length + length % 2);
     CASE(") %zu ", length);
-    built_image(reference_write(table.bytes, table.length, list, length, room.bytes, room.length), &room);
+    reference_built r = reference_write(table.bytes, table.length, list, length, room.bytes, room.length);
+    /* The image of a list that is refused only for defaults not worth their hops is kept as well, to be judged, expanded and scanned. */
+    piece before;
+    if (r.refused == 25) before.length = reference_image(table.bytes, table.length, list, length, before.bytes, MOST_BYTES).length;
+    if (r.refused == 25 && room.length >= before.length) kept(before.bytes, before.length);
+    built_image(r, &room);
 }
 
 static void judges(size_t i, const damage *d) {
@@ -419,11 +424,20 @@ static void some_write(uint32_t n, int spoil, int short_room) {
     uint8_t list[64];
     piece trial;
     size_t bytes = some_list(list, n, spoil);
-    size_t length = reference_write(table.bytes, table.length, list, bytes, trial.bytes, MOST_BYTES).length;
+    /* Rooms are as for a list that is taken, so that 25 is seen before 16. */
+    size_t length = reference_image(table.bytes, table.length, list, bytes, trial.bytes, MOST_BYTES).length;
     if (!length)
         writes(list, bytes, below(2) ? MOST_BYTES / 2 : below(9));
     else
         writes(list, bytes, short_room ? length - 1 - (below(2) ? 0 : below((uint32_t)length)) : length + (below(2) ? 0 : below(9)));
+    /* What is left of a list that is 25, where something is, in a room that it fills. */
+    if (!length || !leave_worthy(list, table.bytes)) return;
+    length = reference_write(table.bytes, table.length, list, bytes, trial.bytes, MOST_BYTES).length;
+    for (uint32_t s = 0; s < n; s++)
+        if (number16(list, 2 * s) != 65535) {
+            writes(list, bytes, length);
+            return;
+        }
 }
 
 static void some_judge(void) {
@@ -657,7 +671,7 @@ int main(int words, char **word) {
     }
     printf("rows: %llu tables, %llu of them damaged, %llu cases; a bound above 0 decides in %llu, an order above 0 in %llu\n  given  ", (unsigned long long)rows,
            (unsigned long long)broken, (unsigned long long)cases, (unsigned long long)bound_decides, (unsigned long long)order_decides);
-    for (int r = 0; r < 20; r++)
+    for (int r = 0; r < 26; r++)
         if (given[r]) printf(" %d:%llu", r, (unsigned long long)given[r]);
     printf("\n");
     return 0;

@@ -6,6 +6,7 @@
 #include "kamordast.h"
 #include "old_loader.h"
 #include "reference/reference.h"
+#include "rewritten.h"
 #include "support.h"
 #include "there_and_back.h"
 
@@ -40,10 +41,11 @@ static kamordast_scanned compared(size_t length, uint32_t state, size_t payload_
 static size_t some_image(uint32_t n, uint32_t k) {
     size_t length = either_edition(table, make_table(table, n, k, below(257)));
     make_defaults(defaults, n, below(257));
-    reference_built built = reference_write(table, length, defaults, 2 * (size_t)n, image, sizeof image);
+    reference_built built = reference_image(table, length, defaults, 2 * (size_t)n, image, sizeof image);
     if (built.refused) fail("the reference refused its own table", cases);
     old_loader(image, built.length, 0, cases);
     there_and_back(image, built.length, cases);
+    rewritten(image, built.length, cases);
     return built.length;
 }
 
@@ -104,7 +106,7 @@ static void edges(void) {
     }
     memset(table + 6, 0, 256);
     table[6 + 1] = 1;
-    reference_built built = reference_write(table, bytes, defaults, 2 * (size_t)n, image, sizeof image);
+    reference_built built = reference_image(table, bytes, defaults, 2 * (size_t)n, image, sizeof image);
     memset(payload, 0, sizeof payload);
     kamordast_scanned r = compared(built.length, 511, 65536, 0);
     if (r.hops != 65536u * 511u) fail("the most hops", r.hops);

@@ -27,7 +27,7 @@ static void agree(size_t length) {
 
 /* Makes the image of a table of this length with the list of defaults. */
 static size_t written(size_t length) {
-    reference_built built = reference_write(table, length, defaults, 2 * (size_t)states_in(table), image, sizeof image);
+    reference_built built = reference_image(table, length, defaults, 2 * (size_t)states_in(table), image, sizeof image);
     if (built.refused) fail("the reference refused its own table", cases);
     old_loader(image, built.length, 0, cases);
     return built.length;

@@ -6,6 +6,7 @@
 #include "kamordast.h"
 #include "old_loader.h"
 #include "reference/reference.h"
+#include "rewritten.h"
 #include "there_and_back.h"
 
 enum { LONGEST_PAYLOAD = 65536, LONGEST_ROOM = 6 * KAMORDAST_MOST_LABELS * LONGEST_PAYLOAD };
@@ -42,11 +43,12 @@ static void expect(kamordast_scanned r, uint32_t taken, uint32_t state, uint32_t
 
 /* The image of the table with these defaults. */
 static void write_image(void) {
-    reference_built built = reference_write(table, table_length, defaults, 2 * (size_t)states_in(table), image, sizeof image);
+    reference_built built = reference_image(table, table_length, defaults, 2 * (size_t)states_in(table), image, sizeof image);
     if (built.refused) fail("the reference refused its own table", built.refused);
     image_length = built.length;
     old_loader(image, image_length, 0, cases);
     there_and_back(image, image_length, cases);
+    rewritten(image, image_length, cases);
 }
 
 /* T in edition 2, its states 1, 2 and 3 falling to 0. State 2 has 7, 8 and 300, state 3 has 9. */

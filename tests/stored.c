@@ -1,12 +1,14 @@
 /* Images kept in tests/images: each is still judged good, expanded, scanned and written again to the same bytes. Those of the orders 0 to 2 were built before the
  * root of a tree with two centres became the one with more neighbours; all but T's have a tree that is now rooted at its other centre. Those of order 3 are as that
- * order first built them, and those of edition 2 as that edition first was. */
+ * order first built them, and those of edition 2 as that edition first was. That of the paper's three states was written with a list that write has refused since, as neither of its defaults is worth its hops: it is not written
+ * again, but rewritten. */
 #include <stdio.h>
 #include <string.h>
 
 #include "kamordast.h"
 #include "old_loader.h"
 #include "reference/reference.h"
+#include "rewritten.h"
 #include "support.h"
 #include "there_and_back.h"
 
@@ -50,6 +52,7 @@ static void kept(size_t i) {
     if (kamordast_judge_image(image, length) || reference_judge_image(image, length)) fail("a stored image is refused", i);
     old_loader(image, length, 0, i);
     there_and_back(image, length, i);
+    rewritten(image, length, i);
 
     kamordast_built back = kamordast_expand(image, length, table, sizeof table);
     if (back.refused || kamordast_judge_table(table, back.length)) fail("a stored image is not expanded", i);
@@ -72,9 +75,28 @@ static void kept(size_t i) {
     printf("  %-16s %4zu bytes, %u reports; %5u hops, built now %5u\n", stored[i].name, length, (unsigned)before.reports, (unsigned)before.hops, (unsigned)now.hops);
 }
 
+/* The three states: still judged, expanded and scanned; its own list is 25 now, and rewritten it is what compact makes of the table. */
+static void retired(void) {
+    static const uint8_t list[] = {255, 255, 0, 0, 1, 0};
+    size_t length = read_image("three-states");
+    if (length != 314 || kamordast_judge_image(image, length) || unworthy_in(image) != 2) fail("the image of the three states", length);
+    there_and_back(image, length, 0);
+    if (rewritten(image, length, 0) != 2) fail("the defaults of the three states", 0);
+    kamordast_built expanded = kamordast_expand(image, length, table, sizeof table), built = kamordast_compact(table, expanded.length, 3, wanted, sizeof wanted);
+    if (expanded.length != 280 || kamordast_write(table, 280, list, sizeof list, again, sizeof again).refused != 25) fail("the list of the three states is 25", 0);
+    kamordast_built now = kamordast_rewrite(image, length, again, sizeof again);
+    if (now.length != 322 || built.length != 322 || memcmp(again, wanted, 322)) fail("the three states rewritten", now.length);
+    /* From state 2 a byte 'b' goes to 1, which its default served, and the next ones stay there. */
+    memset(payload, 'b', sizeof payload);
+    kamordast_scanned old = kamordast_scan(image, length, 2, payload, sizeof payload, reports, 0), anew = kamordast_scan(again, now.length, 2, payload, sizeof payload, reports, 0);
+    if (old.taken != sizeof payload || old.state != 1 || old.hops != 1 || anew.taken != old.taken || anew.state != 1 || anew.hops) fail("the scans of the three states", 0);
+    printf("  %-16s %4zu bytes, rewritten %u; %u hop, rewritten %u\n", "three-states", length, (unsigned)now.length, (unsigned)old.hops, (unsigned)anew.hops);
+}
+
 int main(void) {
     seed(13);
     printf("stored: images built before, judged, expanded, scanned and written again\n");
     for (size_t i = 0; i < sizeof stored / sizeof *stored; i++) kept(i);
+    retired();
     return 0;
 }

@@ -159,6 +159,27 @@ void make_defaults(uint8_t *defaults, uint32_t n, uint32_t often) {
     for (uint32_t i = 0; i < n; i++) set16(defaults, 2 * order[i], i > 0 && below(256) < often ? order[below(8) ? below(i) : i - 1] : 65535);
 }
 
+uint32_t leave_worthy(uint8_t *defaults, const uint8_t *table) {
+    uint32_t k = number16(table, 2), gone = 0;
+    size_t rows = rows_in(table);
+    for (uint32_t s = 0; s < states_in(table); s++) {
+        uint32_t to = number16(defaults, 2 * (size_t)s), shared = 0;
+        for (uint32_t c = 0; to != 65535 && c < k; c++) shared += number16(table, rows + 2 * ((size_t)s * k + c)) == number16(table, rows + 2 * ((size_t)to * k + c));
+        if (to == 65535 || shared >= 2) continue;
+        set16(defaults, 2 * (size_t)s, 65535);
+        gone++;
+    }
+    return gone;
+}
+
+uint32_t unworthy_in(const uint8_t *image) {
+    uint32_t found = 0;
+    size_t records = records_in(image);
+    for (uint32_t s = 0; s < states_in(image); s++)
+        found += number16(image, records + 4 * (size_t)s) != 65535 && number16(image, records + 4 * (size_t)s + 2) + 2 > number16(image, 2);
+    return found;
+}
+
 void damage_image(uint8_t *b, const uint8_t *image, size_t length) {
     uint32_t n = states_in(image), k = number16(image, 2), m = number32(image, 8);
     size_t records = length - 12 - 4 * (size_t)m - 4 * (size_t)n, entries = records + 4 * (size_t)n, labels = (records - 268) / 2;

@@ -50,6 +50,12 @@ size_t either_edition(uint8_t *table, size_t length);
 /* A list of defaults without a circle: a state has one in `often` of 256 cases. */
 void make_defaults(uint8_t *defaults, uint32_t n, uint32_t often);
 
+/* Takes out of a list of defaults those that share fewer than two classes with their states, by the rows of a sound table; answers how many. */
+uint32_t leave_worthy(uint8_t *defaults, const uint8_t *table);
+
+/* How many states of a sound image have such a default: each of them stores all classes or all but one. */
+uint32_t unworthy_in(const uint8_t *image);
+
 /* Damage where the grounds look, in a copy of an accepted image, most times with the check word mended so that the later grounds are reached. */
 void damage_image(uint8_t *copy, const uint8_t *image, size_t length);
 

@@ -1,15 +1,16 @@
 /* The walk against the independent reading, on tables of both editions, and beside it the archive's scan of each image of the table: those that compact builds in every order, and one
- * that write makes of a list at random. Then a table and an image with one fault each, told apart by the two. Buffers begin or end at a guard page, by turns. */
+ * that write makes of a list at random, and one of such a list with defaults that write does not take. Then a table and an image with one fault each, told apart by the two. Buffers begin or end at a guard page, by turns. */
 #include <stdio.h>
 #include <string.h>
 
 #include "kamordast.h"
 #include "old_loader.h"
 #include "reference/reference.h"
+#include "rewritten.h"
 #include "support.h"
 #include "there_and_back.h"
 
-enum { IMAGES = 5, SHORT = 40 };
+enum { IMAGES = 6, SHORT = 40 };
 
 static guarded lent_table, lent_image, lent_payload, lent_room, lent_other;
 static uint8_t table[LONGEST_TABLE], images[IMAGES][LONGEST_IMAGE], payload[65600], wanted[6 * KAMORDAST_MOST_LABELS * 65600], defaults[1024];
@@ -60,13 +61,18 @@ static void some_table(uint32_t n, uint32_t k) {
     uint32_t bound = below(4) ? below(6) : 65535;
     table_length = either_edition(table, below(3) ? make_table(table, n, k, below(257)) : make_levels(table, n, k, below(257), 1 + below(n), 1 + below(3)));
     make_defaults(defaults, n, below(257));
-    for (uint32_t i = 0; i < IMAGES; i++) {
+    image_length[5] = reference_image(table, table_length, defaults, 2 * (size_t)n, images[5], LONGEST_IMAGE).length;
+    leave_worthy(defaults, table);
+    for (uint32_t i = 0; i < 5; i++) {
         kamordast_built built = i < 4 ? kamordast_compact_in_order(table, table_length, i, (uint16_t)bound, images[i], LONGEST_IMAGE)
                                       : kamordast_write(table, table_length, defaults, 2 * (size_t)n, images[i], LONGEST_IMAGE);
         if (built.refused) fail("a sound table was refused", cases);
-        old_loader(images[i], built.length, 0, cases);
-        there_and_back(images[i], built.length, cases);
         image_length[i] = built.length;
+    }
+    for (uint32_t i = 0; i < IMAGES; i++) {
+        old_loader(images[i], image_length[i], 0, cases);
+        there_and_back(images[i], image_length[i], cases);
+        rewritten(images[i], image_length[i], cases);
     }
 }
 
@@ -190,6 +196,7 @@ static void told_apart(int tables) {
             if (built.refused || fault(&right, other, altered, built.length) != IN_THE_TABLE) fail("the fault is in the table", cases);
             old_loader(altered, built.length, 0, cases);
             there_and_back(altered, built.length, cases);
+            rewritten(altered, built.length, cases);
             if (fault(&right, other, images[i], image_length[i]) != IN_THIS_COPY_OF_THE_TABLE) fail("the image is of the table before", cases);
             altered[built.length - 1] ^= 1;
             if (fault(&right, other, altered, built.length) != IN_BOTH) fail("a fault in both", cases);

@@ -241,8 +241,15 @@ static reference_built refuse(uint32_t number) {
     return answer;
 }
 
-reference_built reference_write(const uint8_t *t, size_t length, const uint8_t *defaults, size_t defaults_length, uint8_t *room,
-                                size_t room_length) {
+/* How many classes lead two states to equal next states. */
+static uint32_t classes_shared(const numbers *a, uint32_t x, uint32_t y) {
+    uint32_t shared = 0;
+    for (uint32_t c = 0; c < a->k; c++) shared += a->next[x][c] == a->next[y][c];
+    return shared;
+}
+
+/* The image of a table with a list: the table's grounds, 8, 11, for write 25, and 16. */
+static reference_built written(const uint8_t *t, size_t length, const uint8_t *defaults, size_t defaults_length, int retired, uint8_t *room, size_t room_length) {
     uint32_t refused = reference_judge_table(t, length);
     if (refused) return refuse(refused);
     uint32_t n = states_of(t), fallback[MOST_STATES];
@@ -254,10 +261,20 @@ reference_built reference_write(const uint8_t *t, size_t length, const uint8_t *
     for (uint32_t s = 0; s < n; s++)
         if (chain_length(fallback, n, s) < 0) return refuse(11);
     numbers *a = table_numbers(t);
-    size_t result_length;
-    uint8_t *result = image_of(a, fallback, &result_length);
+    for (uint32_t s = 0; retired && s < n && !refused; s++)
+        if (fallback[s] != NONE && classes_shared(a, s, fallback[s]) < 2) refused = 25;
+    size_t result_length = 0;
+    uint8_t *result = refused ? NULL : image_of(a, fallback, &result_length);
     free(a);
-    return fill(result, result_length, room, room_length);
+    return refused ? refuse(refused) : fill(result, result_length, room, room_length);
+}
+
+reference_built reference_write(const uint8_t *t, size_t length, const uint8_t *defaults, size_t defaults_length, uint8_t *room, size_t room_length) {
+    return written(t, length, defaults, defaults_length, 1, room, room_length);
+}
+
+reference_built reference_image(const uint8_t *t, size_t length, const uint8_t *defaults, size_t defaults_length, uint8_t *room, size_t room_length) {
+    return written(t, length, defaults, defaults_length, 0, room, room_length);
 }
 
 /* The forest: the pairs added, as each state's neighbours. Distances are found by a search over them, anew at each question. */
@@ -393,8 +410,7 @@ static void fall_to_roots(const numbers *a, uint32_t order, uint32_t bound, uint
     uint8_t(*weight)[MOST_STATES] = calloc(MOST_STATES, sizeof *weight);
     for (uint32_t u = 0; u < a->n; u++)
         for (uint32_t v = u + 1; v < a->n; v++) {
-            int same = 0;
-            for (uint32_t c = 0; c < a->k; c++) same += a->next[u][c] == a->next[v][c];
+            uint32_t same = classes_shared(a, u, v);
             weight[u][v] = (uint8_t)(same > 0 ? same - 1 : 0);
         }
     pairs *p = calloc(1, sizeof *p);
@@ -449,8 +465,7 @@ static void fall_toward_start(const numbers *a, uint32_t *fallback) {
         fallback[x] = NONE;
         for (uint32_t y = 0; y < a->n; y++) {
             if (level[x] < 0 || level[y] < 0 || level[y] >= level[x]) continue;
-            uint32_t shared = 0;
-            for (uint32_t c = 0; c < a->k; c++) shared += a->next[x][c] == a->next[y][c];
+            uint32_t shared = classes_shared(a, x, y);
             if (shared < 2 || shared <= most) continue;
             most = shared;
             fallback[x] = y;
@@ -504,6 +519,24 @@ reference_built reference_expand(const uint8_t *b, size_t length, uint8_t *room,
     for (uint32_t s = 0; s < n; s++)
         for (uint32_t c = 0; c < k; c++) append16(&p, look_up(r, s, c, &hops));
     free(r);
+    return fill(result, result_length, room, room_length);
+}
+
+/* The table of the image, and of its defaults those that share two classes or more with their states, by the rows of that table. */
+reference_built reference_rewrite(const uint8_t *b, size_t length, uint8_t *room, size_t room_length) {
+    uint32_t refused = reference_judge_image(b, length);
+    if (refused) return refuse(refused);
+    uint32_t n = states_of(b), fallback[MOST_STATES];
+    size_t most = 262 + 2 * (size_t)n + 2 * (size_t)labels_behind(b, 268) + 2 * (size_t)n * read16(b, 2), result_length;
+    uint8_t *t = malloc(most);
+    reference_expand(b, length, t, most);
+    numbers *a = table_numbers(t);
+    rows *r = image_rows(b);
+    for (uint32_t s = 0; s < n; s++) fallback[s] = r->fallback[s] == NONE || classes_shared(a, s, r->fallback[s]) < 2 ? NONE : r->fallback[s];
+    uint8_t *result = image_of(a, fallback, &result_length);
+    free(r);
+    free(a);
+    free(t);
     return fill(result, result_length, room, room_length);
 }
 

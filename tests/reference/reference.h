@@ -24,6 +24,10 @@ reference_built reference_compact(const uint8_t *table, size_t length, uint32_t 
 reference_built reference_write(const uint8_t *table, size_t length, const uint8_t *defaults, size_t defaults_length, uint8_t *room,
                                 size_t room_length);
 reference_built reference_expand(const uint8_t *image, size_t length, uint8_t *room, size_t room_length);
+/* The image of a table with any list of defaults without a circle: what write made of it before request C-22, and makes where each default shares two classes or more with its state. */
+reference_built reference_image(const uint8_t *table, size_t length, const uint8_t *defaults, size_t defaults_length, uint8_t *room,
+                                size_t room_length);
+reference_built reference_rewrite(const uint8_t *image, size_t length, uint8_t *room, size_t room_length);
 /* An image of edition 1 into edition 2, and of edition 2 back into edition 1. */
 reference_built reference_forward(const uint8_t *image, size_t length, uint8_t *room, size_t room_length);
 reference_built reference_back(const uint8_t *image, size_t length, uint8_t *room, size_t room_length);

@@ -17,6 +17,13 @@ use Rattle.trips.proofs.ImageParts.{end}
 use Rattle.tally.specs.Kept.{kept}
 use Rattle.tally.proofs.Owned.{kept-differs}
 
+-- The entries of a state depend on its own default only.
+pub entries-at : (t : List ℕ) (f g : ℕ → Option ℕ) (s : ℕ) → f s ≡ g s → entriesOf t f s ≡ entriesOf t g s
+unfolding entriesOf
+entries-at t f g s e =
+    each-same (classes t) (λ c. cond (differs t f s c (f s)) ((c, next t s c) ∷ []) []) (λ c. cond (differs t g s c (g s)) ((c, next t s c) ∷ []) [])
+    (λ c hc. ap (λ (b : Bool). cond b ((c, next t s c) ∷ []) []) (sym (kept-differs t f s c (f s)) ∙ ap (kept t s c) e ∙ kept-differs t g s c (g s)))
+
 module _ (t : List ℕ) (f g : ℕ → Option ℕ) (same : (s : ℕ) → s < states t → f s ≡ g s) (inside : Inside (tableView t f)) where
   -- The view with the one defaults.
   abbrev v : View
@@ -27,10 +34,7 @@ module _ (t : List ℕ) (f g : ℕ → Option ℕ) (same : (s : ℕ) → s < sta
   w = tableView t g
 
   entries-same : (s : ℕ) → s < states t → entriesOf t f s ≡ entriesOf t g s
-  unfolding entriesOf
-  entries-same s h =
-      each-same (classes t) (λ c. cond (differs t f s c (f s)) ((c, next t s c) ∷ []) []) (λ c. cond (differs t g s c (g s)) ((c, next t s c) ∷ []) [])
-      (λ c hc. ap (λ (b : Bool). cond b ((c, next t s c) ∷ []) []) (sym (kept-differs t f s c (f s)) ∙ ap (kept t s c) (same s h) ∙ kept-differs t g s c (g s)))
+  entries-same s h = entries-at t f g s (same s h)
 
   -- The views agree.
   pub views-agree : Agree v w

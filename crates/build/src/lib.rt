@@ -2,6 +2,7 @@
 ghost use mathlib.Core.Path.{_≡_};
 ghost use Rattle.paper.specs.View.{depthOf};
 ghost use Rattle.paper.specs.Promises.{Writes, Compacts};
+ghost use Rattle.tally.specs.Kept.{Counts};
 ghost use Rattle.tally.specs.Owned.{listView, Ordered};
 ghost use Rattle.build.specs.Measured.{listImage, Fills};
 use answers::Built;
@@ -9,7 +10,11 @@ use answers::Built;
 mod defaults;
 mod parts;
 
-// 16: the room is shorter than the image. Else the image is written, with the order and the depth that are known of the defaults.
+pub use parts::put_front;
+pub use parts::put_pair;
+pub use parts::put_records;
+
+// 16: the room is shorter than the image. Else the image is written, with the order and the depth that are known of the defaults, and the entries that each state keeps with them.
 fn image_into(
     t: &[u8],
     n: usize,
@@ -17,20 +22,20 @@ fn image_into(
     def: &[u16; 512],
     order: &[u16; 512],
     depth: u16,
+    counts: &[u16; 512],
     room: &mut [u8],
 ) -> Built
-    requires { ⌜ Ordered (now t) n k (now def) (now order) × (depth ≡ depthOf (listView (now t) (now def))) ⌝ }
+    requires { ⌜ Ordered (now t) n k (now def) (now order) × (depth ≡ depthOf (listView (now t) (now def))) × Counts (now t) n (now def) (now counts) ⌝ }
     ensures { λ r. ⌜ Fills (listImage (now (t .entry)) (now (def .entry))) (now (room .entry)) (r .refused) (r .length) (now (room .exit)) ⌝ }
 {
-    let counts = tally::counts_of(t, n, k, def);
-    let m = tally::sum_of(&counts, n);
+    let m = tally::sum_of(counts, n);
     let held = labels::behind(t, 262, n, words::get16(t, 0));
     let whole = ending::image_length(n, m, held);
     if room.len() < whole as usize {
         return answers::not_built(16);
     }
     let worst = tally::worst_of(t, n, k, def, order);
-    parts::emit(t, n, k, held, def, &counts, m, depth, worst, room);
+    parts::emit(t, n, k, held, def, counts, m, depth, worst, room);
     Built {
         refused: 0,
         length: whole,
@@ -56,7 +61,12 @@ pub fn write(table: &[u8], defaults: &[u8], room: &mut [u8]) -> Built
         return answers::not_built(11);
     }
     let order = o.order;
-    image_into(table, n, k, &def, &order, o.depth, room)
+    // 25: a default shares fewer than two classes with its state.
+    let counts = tally::counts_of(table, n, k, &def);
+    if tally::some_share_few(&def, &counts, n, k) {
+        return answers::not_built(25);
+    }
+    image_into(table, n, k, &def, &order, o.depth, &counts, room)
 }
 
 // Compact: table, order and path bound into an image.
@@ -76,5 +86,6 @@ pub fn compact(table: &[u8], order: u32, bound: u16, room: &mut [u8]) -> Built
     let def = choice::defaults_of(table, n, k, order as u8, bound);
     let o = chains::order_of(&def, n);
     let sorted = o.order;
-    image_into(table, n, k, &def, &sorted, o.depth, room)
+    let counts = tally::counts_of(table, n, k, &def);
+    image_into(table, n, k, &def, &sorted, o.depth, &counts, room)
 }

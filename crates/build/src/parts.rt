@@ -18,7 +18,7 @@ ghost use Rattle.build.specs.Pieces.{classesAndLabels, listedRecord, kep
 ghost use Rattle.build.specs.Measured.{listImage, Measured};
 
 // Writes the front: n with the edition, k and start as the table states them, depth and m.
-fn put_front(t: &[u8], depth: u16, m: u32, room: &mut [u8])
+pub fn put_front(t: &[u8], depth: u16, m: u32, room: &mut [u8])
     requires { ⌜ (6 ≤ length (now t)) × (12 ≤ length (now room)) ⌝ }
     ensures { λ _. ⌜ now (room .exit) ≡ placed (now (room .entry)) 0 (front (edition (now (t .entry))) (states (now (t .entry))) (classes (now (t .entry))) (start (now (t .entry))) depth m) ⌝ }
 {
@@ -38,7 +38,7 @@ fn put_labels(t: &[u8], n: usize, held: usize, room: &mut [u8])
 }
 
 // Writes two numbers of 16 bits, one behind the other.
-fn put_pair(room: &mut [u8], at: usize, x: u16, y: u16)
+pub fn put_pair(room: &mut [u8], at: usize, x: u16, y: u16)
     requires { ⌜ at + 4 ≤ length (now room) ⌝ }
     ensures { λ _. ⌜ now (room .exit) ≡ placed (now (room .entry)) at (bytes16 x ++ bytes16 y) ⌝ }
 {
@@ -47,7 +47,7 @@ fn put_pair(room: &mut [u8], at: usize, x: u16, y: u16)
 }
 
 // Writes the records: the default and the count of each state.
-fn put_records(def: &[u16; 512], counts: &[u16; 512], n: usize, room: &mut [u8], at: usize)
+pub fn put_records(def: &[u16; 512], counts: &[u16; 512], n: usize, room: &mut [u8], at: usize)
     requires { ⌜ (n ≤ 512) × (at + 4 * n ≤ length (now room)) ⌝ }
     ensures { λ _. ⌜ now (room .exit) ≡ placed (now (room .entry)) at (each n (listedRecord (now (def .entry)) (now (counts .entry)))) ⌝ }
 {

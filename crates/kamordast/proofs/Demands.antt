@@ -24,9 +24,10 @@ use Rattle.paper.specs.Roots.{pairsAt, GoesBefore}
 use Rattle.paper.specs.FallBack.{level}
 use Rattle.paper.specs.Defaults.{defaults}
 use Rattle.paper.specs.Reached.{LeadsTo, HasLevel}
-use Rattle.paper.specs.Operations.{judgeTable, judgeImage, result, Unchanged, building, compact, write, expand, forward, back, scan, walk}
-use Rattle.paper.specs.Promises.{SameBuilt, JudgesTable, JudgesImage, Compacts, Writes, Expands, MovesForward, MovesBack, Scans, Walks, SameWalk}
-use Rattle.paper.specs.Sentences.{FirstOf, Ends, LongestChain, Serves, LargestHops, tableSentences, imageSentences, compactSentences, writeSentences, expandSentences, forwardSentences, backSentences, scanSentences, walkSentences}
+use Rattle.paper.specs.Operations.{judgeTable, judgeImage, result, Unchanged, building, compact, write, expand, rewrite, forward, back, scan, walk}
+use Rattle.paper.specs.Promises.{SameBuilt, JudgesTable, JudgesImage, Compacts, Writes, Expands, Rewrites, MovesForward, MovesBack, Scans, Walks, SameWalk}
+use Rattle.paper.specs.Sentences.{FirstOf, Ends, LongestChain, Serves, LargestHops, tableSentences, imageSentences, compactSentences, writeSentences, expandSentences, rewriteSentences, forwardSentences, backSentences, scanSentences, walkSentences}
+use Rattle.paper.specs.Rewrite.{kept, AllWorth}
 use Rattle.paper.specs.Follows.{ScansLike}
 use Rattle.paper.specs.Altered.{Altered}
 use Rattle.paper.specs.Cases.{built, right, room, starred, requested, three}
@@ -46,6 +47,7 @@ use Rattle.trees.proofs.Best.{falling-joins, joins-falling}
 use Rattle.levels.proofs.Payloads as reached
 use Rattle.trips.proofs.ExpandsBack as expands
 use Rattle.trips.proofs.WritesBack as writes
+use Rattle.trips.proofs.WorthBuilt as worth
 use Rattle.trips.proofs.EditionKept as editions
 use Rattle.trips.proofs.MovesBack as returns
 use Rattle.moves.proofs.Left as moves
@@ -57,6 +59,7 @@ use Rattle.kamordast.proofs.MovedScans as moved
 use Rattle.kamordast.proofs.Left as left
 use Rattle.kamordast.proofs.Compacted as compacted
 use Rattle.kamordast.proofs.Fewest as least
+use Rattle.kamordast.proofs.Rewritten as rewritten
 
 -- Each operation's number is that of the first of its sentences that holds, 0 where none does.
 pub refusals-exact : ((t : List ℕ) (number : ℕ) → judgeTable t ≡ number ↔ FirstOf (tableSentences t) number)
@@ -66,6 +69,7 @@ pub refusals-exact : ((t : List ℕ) (number : ℕ) → judgeTable t ≡ number 
     × ((b room : List ℕ) (number : ℕ) → expand b room .number ≡ number ↔ FirstOf (expandSentences b (length room)) number)
     × ((b room : List ℕ) (number : ℕ) → forward b room .number ≡ number ↔ FirstOf (forwardSentences b (length room)) number)
     × ((b room : List ℕ) (number : ℕ) → back b room .number ≡ number ↔ FirstOf (backSentences b (length room)) number)
+    × ((b room : List ℕ) (number : ℕ) → rewrite b room .number ≡ number ↔ FirstOf (rewriteSentences b (length room)) number)
     × ((b : List ℕ) (s : ℕ) (payload room : List ℕ) (number : ℕ) → scan b s payload room .number ≡ number ↔ FirstOf (scanSentences b s payload) number)
     × ((t : List ℕ) (s : ℕ) (payload room : List ℕ) (number : ℕ) → walk t s payload room .number ≡ number ↔ FirstOf (walkSentences t s payload) number)
 refusals-exact = (
@@ -76,6 +80,7 @@ refusals-exact = (
   exact.expand-exact,
   exact.forward-exact,
   exact.back-exact,
+  exact.rewrite-exact,
   exact.scan-exact,
   exact.walk-exact,
 )
@@ -86,6 +91,7 @@ pub refused-unchanged : ((t : List ℕ) (order D : ℕ) (room : List ℕ) → ¬
     × ((b room : List ℕ) → ¬ (expand b room .number ≡ 0) → Unchanged (expand b room) room)
     × ((b room : List ℕ) → ¬ (forward b room .number ≡ 0) → Unchanged (forward b room) room)
     × ((b room : List ℕ) → ¬ (back b room .number ≡ 0) → Unchanged (back b room) room)
+    × ((b room : List ℕ) → ¬ (rewrite b room .number ≡ 0) → Unchanged (rewrite b room) room)
     × ((b : List ℕ) (s : ℕ) (payload room : List ℕ) → ¬ (scan b s payload room .number ≡ 0)
     → (scan b s payload room .taken ≡ 0) × (scan b s payload room .state ≡ 0) × (scan b s payload room .reports ≡ 0) × (scan b s payload room .hops ≡ 0) × (scan b s payload room .room ≡ room))
     × ((t : List ℕ) (s : ℕ) (payload room : List ℕ) → ¬ (walk t s payload room .number ≡ 0)
@@ -96,6 +102,7 @@ refused-unchanged = (
   refusing.expand-refused,
   refusing.forward-refused,
   refusing.back-refused,
+  refusing.rewrite-refused,
   refusing.scan-refused,
   refusing.walk-refused,
 )
@@ -138,15 +145,41 @@ pub expands-back : ((t ds room room′ : List ℕ) → Bytes t → write t ds ro
     × ((t : List ℕ) (order D : ℕ) (room room′ : List ℕ) → Bytes t → compact t order D room .number ≡ 0 → length t ≤ length room′ → expand (result (compact t order D room)) room′ ≡ building 0 t room′)
 expands-back = (expands.expand-write, expands.expand-compact)
 
--- Expanding an accepted image and writing it again with its own defaults gives back that image.
-pub writes-back : (b room room′ : List ℕ) → Bytes b → expand b room .number ≡ 0 → length b ≤ length room′ → write (result (expand b room)) (defaultsOf b) room′ ≡ building 0 b room′
-writes-back = writes.write-expand-own
+-- Expanding an accepted image whose defaults are all worth their hops and writing it again with its own defaults gives back that image; of any other image write refuses its defaults with 25.
+pub writes-back : ((b room room′ : List ℕ) → Bytes b → expand b room .number ≡ 0 → AllWorth b → length b ≤ length room′ → write (result (expand b room)) (defaultsOf b) room′ ≡ building 0 b room′)
+    × ((b room room′ : List ℕ) → Bytes b → expand b room .number ≡ 0 → ¬ AllWorth b → write (result (expand b room)) (defaultsOf b) room′ .number ≡ 25)
+writes-back = (writes.write-expand-own, writes.write-expand-weak)
 
--- A result keeps the edition of its input: the image that write or compact leaves that of the table, the table that expand leaves that of the image.
+-- Every default of what compact, in any order, and write leave is worth its hops.
+pub worth-built : ((t : List ℕ) (order D : ℕ) (room : List ℕ) → Bytes t → compact t order D room .number ≡ 0 → AllWorth (result (compact t order D room)))
+    × ((t ds room : List ℕ) → Bytes t → write t ds room .number ≡ 0 → AllWorth (result (write t ds room)))
+worth-built = (worth.compact-leaves-worth, worth.write-leaves-worth)
+
+-- What rewrite leaves is accepted, stands for the same table, and has no default that is not worth its hops; every other default stays. An image without such a default comes back byte for byte.
+pub rewrite-leaves-none : (b room : List ℕ) → Bytes b → rewrite b room .number ≡ 0
+    → let r = result (rewrite b room) in
+    (judgeImage r ≡ 0) × (tableOf r ≡ tableOf b) × AllWorth r × ((s : ℕ) → s < image.states b → image.default r s ≡ kept (tableOf b) s (image.default b s)) × (AllWorth b → r ≡ b)
+rewrite-leaves-none b room B e =
+    (rewritten.left-accepted b room B e, rewritten.left-table b room B e, rewritten.left-worth b room B e, rewritten.left-defaults b room B e, rewritten.left-same b room B e)
+
+-- A scan of what rewrite leaves answers the number, the bytes taken, the state and the reports of that of the image and leaves the same bytes in the room: from every state, over every payload and with every room, refusals included.
+pub rewrite-follows : (b room : List ℕ) → Bytes b → rewrite b room .number ≡ 0
+    → (s : ℕ) (payload reports : List ℕ) → Bytes payload → SameWalk (scan (result (rewrite b room)) s payload reports) (scan b s payload reports)
+rewrite-follows = rewritten.left-scans
+
+-- In what rewrite leaves no state and byte cost more hops than in the image, and so no payload does.
+pub rewrite-hops : (b room : List ℕ) → Bytes b → rewrite b room .number ≡ 0
+    → let r = result (rewrite b room) in
+    ((s x : ℕ) → s < image.states b → x < 256 → look (imageView r) s (image.classOf r x) .hops ≤ look (imageView b) s (image.classOf b x) .hops)
+    × ((s : ℕ) (payload reports : List ℕ) → Bytes payload → scan r s payload reports .hops ≤ scan b s payload reports .hops)
+rewrite-hops b room B e = (rewritten.left-hops b room B e, rewritten.left-scan-hops b room B e)
+
+-- A result keeps the edition of its input: the image that write or compact leaves that of the table, the table that expand leaves and the image that rewrite leaves that of the image.
 pub edition-kept : ((t ds room : List ℕ) → Bytes t → write t ds room .number ≡ 0 → image.edition (result (write t ds room)) ≡ edition t)
     × ((t : List ℕ) (order D : ℕ) (room : List ℕ) → Bytes t → compact t order D room .number ≡ 0 → image.edition (result (compact t order D room)) ≡ edition t)
     × ((b room : List ℕ) → Bytes b → expand b room .number ≡ 0 → edition (result (expand b room)) ≡ image.edition b)
-edition-kept = (editions.write-keeps-edition, editions.compact-keeps-edition, editions.expand-keeps-edition)
+    × ((b room : List ℕ) → Bytes b → rewrite b room .number ≡ 0 → image.edition (result (rewrite b room)) ≡ image.edition b)
+edition-kept = (editions.write-keeps-edition, editions.compact-keeps-edition, editions.expand-keeps-edition, rewritten.left-edition)
 
 -- Back of what forward leaves gives back the image, byte for byte.
 pub forward-back : (b room room′ : List ℕ) → Bytes b → forward b room .number ≡ 0 → length b ≤ length room′ → back (result (forward b room)) room′ ≡ building 0 b room′
@@ -284,6 +317,7 @@ pub determined : ((t : List ℕ) (n n′ : ℕ) → JudgesTable t n → JudgesTa
     × ((b room : List ℕ) (n l n′ l′ : ℕ) (r r′ : List ℕ) → Expands b room n l r → Expands b room n′ l′ r′ → SameBuilt n l r n′ l′ r′)
     × ((b room : List ℕ) (n l n′ l′ : ℕ) (r r′ : List ℕ) → MovesForward b room n l r → MovesForward b room n′ l′ r′ → SameBuilt n l r n′ l′ r′)
     × ((b room : List ℕ) (n l n′ l′ : ℕ) (r r′ : List ℕ) → MovesBack b room n l r → MovesBack b room n′ l′ r′ → SameBuilt n l r n′ l′ r′)
+    × ((b room : List ℕ) (n l n′ l′ : ℕ) (r r′ : List ℕ) → Rewrites b room n l r → Rewrites b room n′ l′ r′ → SameBuilt n l r n′ l′ r′)
     × ((b : List ℕ) (s : ℕ) (payload room : List ℕ) (n t q k h n′ t′ q′ k′ h′ : ℕ) (r r′ : List ℕ)
     → Scans b s payload room n t q k h r → Scans b s payload room n′ t′ q′ k′ h′ r′ → (n ≡ n′) × (t ≡ t′) × (q ≡ q′) × (k ≡ k′) × (h ≡ h′) × (r ≡ r′))
     × ((b : List ℕ) (s : ℕ) (payload room : List ℕ) (n t q k h n′ t′ q′ k′ h′ : ℕ) (r r′ : List ℕ)
@@ -296,6 +330,7 @@ determined = (
   only.expand-determined,
   only.forward-determined,
   only.back-determined,
+  only.rewrite-determined,
   only.scan-determined,
   only.walk-determined,
 )

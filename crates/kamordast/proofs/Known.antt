@@ -5,6 +5,7 @@ use mathlib.Core.List.{List, [], _∷_}
 use Prim.Native.Nat.{ℕ, zero, suc}
 use native.Mathlib.Omega.{arith}
 use lib.Dec.{ltb}
+use lib.ListN.{length}
 use borrow.Author.Tests.{ltb-true}
 use Rattle.paper.specs.Words.{byteAt, Bytes, all16, number16, number32, bytes16, bytes32, _⊕_, checkWord}
 use Rattle.paper.specs.Labels.{two, labelCount, label, labelsFrom, labelsBehind}
@@ -17,8 +18,9 @@ use Rattle.paper.specs.Forest.{weight, singles, endNear, joined, d, longest, jo
 use Rattle.paper.specs.FallBack.{levels, towardStart}
 use Rattle.paper.specs.Defaults.{defaults}
 use Rattle.paper.specs.Scan.{scanOf, walkOf}
-use Rattle.paper.specs.Operations.{judgeTable, judgeImage, Built, compacted, compactGrounds, compact, writeGrounds, write, expandGrounds, expand, forwardGrounds, forward, backGrounds, back, scanGrounds, scan, walkGrounds, walk}
-use Rattle.paper.specs.Cases.{T, T2, T-two, three, aabbb, room, Case, right, starred, requested}
+use Rattle.paper.specs.Operations.{judgeTable, judgeImage, Built, listed, compacted, compactGrounds, compact, writeGrounds, write, expandGrounds, expand, rewriteGrounds, rewrite, forwardGrounds, forward, backGrounds, back, scanGrounds, scan, walkGrounds, walk}
+use Rattle.paper.specs.Cases.{T, T2, T-two, three, three3, aabbb, room, Case, right, starred, requested}
+use Rattle.paper.specs.Rewrite.{rewritten}
 use Rattle.paper.proofs.Below.{and-true}
 use Rattle.paper.proofs.Cases.{pick-right, cases, requests}
 use Rattle.trips.proofs.ResultBytes.{image-of-bytes}
@@ -81,20 +83,16 @@ pub edition-T-two : edition T-two ≡ two
 unfolding number16 bytes16
 edition-T-two = refl
 
--- The defaults of T with 0, 1 and 2 to 3, and those of the table of three states with 2 to 1 and 1 to 0.
+-- The defaults of T with 0, 1 and 2 to 3, and the list of four states without one.
 abbrev pub toThree : List ℕ
 toThree = all16 (3 ∷ 3 ∷ 3 ∷ 65535 ∷ [])
 
-abbrev pub downwards : List ℕ
-downwards = all16 (65535 ∷ 0 ∷ 1 ∷ [])
+abbrev pub rootsOnly : List ℕ
+rootsOnly = all16 (65535 ∷ 65535 ∷ 65535 ∷ 65535 ∷ [])
 
 -- Write of T.
 pub write-T : Accepts (write T toThree (room 324)) 324
 write-T = heads (pick-right 9 starred (cases .0))
-
--- Write of the table of three states.
-pub write-three : Accepts (write three downwards (room 314)) 314
-write-three = heads (pick-right 11 starred (cases .0))
 
 -- The scan of "aabbb" is accepted and takes five bytes.
 pub accepts-aabbb : (scan T2 0 aabbb (room 12) .number ≡ 0) × (scan T2 0 aabbb (room 12) .taken ≡ 5)
@@ -131,9 +129,9 @@ pub bytes-three : Bytes three
 unfolding bytes16 allBytes
 bytes-three = bytes-tested three refl
 
-pub bytes-lists : Bytes toThree × Bytes downwards
+pub bytes-lists : Bytes toThree × Bytes rootsOnly
 unfolding bytes16 allBytes
-bytes-lists = (bytes-tested toThree refl, bytes-tested downwards refl)
+bytes-lists = (bytes-tested toThree refl, bytes-tested rootsOnly refl)
 
 pub bytes-payloads : Bytes aabbb × Bytes aaaaa
 unfolding allBytes
@@ -190,3 +188,31 @@ forward-T = heads (pick-right 5 more more-right)
 
 pub back-T : (back (moved two T2) (room 324) .number ≡ 0) × (byteAt (back (moved two T2) (room 324) .room) 0 ≡ 4)
 back-T = heads (pick-right 6 more more-right)
+
+-- Write of T without defaults, and the image of three states, which carries defaults not worth their hops: it has 314 bytes and is rewritten into 322, from the first of them.
+abbrev rewriting : List Case
+rewriting =
+    (write T rootsOnly (room 352) .number ∷ write T rootsOnly (room 352) .resultLength ∷ [], 0 ∷ 352 ∷ [])
+    ∷ (rewrite three3 (room 322) .number ∷ rewrite three3 (room 322) .resultLength ∷ [], 0 ∷ 322 ∷ [])
+    ∷ (byteAt (rewrite three3 (room 322) .room) 0 ∷ length three3 ∷ [], 3 ∷ 314 ∷ []) ∷ []
+
+-- They are right, by computation.
+rewriting-right : right rewriting ≡ true
+unfolding number16 number32 bytes16 bytes32 _⊕_ checkWord labelCount label labelsFrom labelsBehind labels next tableGrounds stored depthOf worstOf viewGrounds image.labels image.default image.count image.entryAt imageGrounds labelBytes labelsHeld recordBytes entryBytes front trailer parts imageOfView entriesOf imageOf tableFrom tableOf judgeImage writeGrounds write rewritten rewriteGrounds rewrite
+rewriting-right = refl
+
+-- Write of T without defaults.
+pub write-roots : Accepts (write T rootsOnly (room 352)) 352
+write-roots = heads (pick-right 0 rewriting rewriting-right)
+
+-- Rewrite of the image of three states.
+pub rewrite-three : Accepts (rewrite three3 (room 322)) 322
+rewrite-three = heads (pick-right 1 rewriting rewriting-right)
+
+-- Its room then begins with n, and the image was shorter.
+pub rewrite-filled : (byteAt (rewrite three3 (room 322) .room) 0 ≡ 3) × (length three3 ≡ 314)
+rewrite-filled = heads (pick-right 2 rewriting rewriting-right)
+
+-- The image of three states is of bytes.
+pub bytes-three3 : Bytes three3
+bytes-three3 = image-of-bytes three (listed (all16 (65535 ∷ 0 ∷ 1 ∷ []))) bytes-three

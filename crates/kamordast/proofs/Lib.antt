@@ -4,6 +4,7 @@ pub mod MovedScans
 pub mod Transitions
 pub mod Compacted
 pub mod Fewest
+pub mod Rewritten
 pub mod Known
 pub mod ShutOut
 pub mod ShutOutMoves

@@ -28,7 +28,7 @@ SameWalks t b = (s : ℕ) (payload room : List ℕ) → Bytes payload → SameWa
 
 module _ (b : List ℕ) (B : Bytes b) (e : judgeImage b ≡ 0) where
   -- The table says of classes, labels and next states what the image says.
-  table-says : Says b (tableOf b)
+  pub table-says : Says b (tableOf b)
   table-says =
       let R = table-reads b B e in
       record {

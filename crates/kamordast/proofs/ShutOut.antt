@@ -7,14 +7,14 @@ use lib.ListN.{length, take}
 use Rattle.paper.specs.Words.{byteAt, Bytes}
 use Rattle.paper.specs.Labels.{one}
 use Rattle.paper.specs.Image as image
-use Rattle.paper.specs.Operations.{Built, result, compact, write, expand, Scanned, scan, walk}
-use Rattle.paper.specs.Promises.{JudgesTable, JudgesImage, IsBuilt, IsScanned, Compacts, Writes, Expands, Scans, Walks}
+use Rattle.paper.specs.Operations.{Built, result, compact, write, expand, rewrite, Scanned, scan, walk}
+use Rattle.paper.specs.Promises.{JudgesTable, JudgesImage, IsBuilt, IsScanned, Compacts, Writes, Expands, Rewrites, Scans, Walks}
 use Rattle.paper.specs.Handed.{ToJudge, ToCompact, ToWrite, ToConvert, ToRun}
-use Rattle.paper.specs.Cases.{T, T2, T-two, three, aabbb, room}
+use Rattle.paper.specs.Cases.{T, T2, T-two, three, three3, aabbb, room}
 use Rattle.paper.proofs.Editions.{one≢two}
 use Rattle.trips.proofs.EditionKept.{compact-keeps-edition}
 use Rattle.kamordast.proofs.Known as known
-use Rattle.kamordast.proofs.Known.{Accepts, toThree, downwards, aaaaa}
+use Rattle.kamordast.proofs.Known.{Accepts, toThree, rootsOnly, aaaaa}
 
 -- A program that refuses every table is not the judge of tables.
 pub judge-table-refuses-all : (p : ToJudge → ℕ) → ((x : ToJudge) → JudgesTable (x .given) (p x)) → ¬ ((x : ToJudge) → ¬ (p x ≡ 0))
@@ -96,12 +96,12 @@ module _ (p : ToWrite → Built) (keeps : (x : ToWrite) → Writes (x .table) (x
   abbrev writing : ToWrite → Built
   writing x = write (x .table) (x .defaults) (x .room)
 
-  -- T with 0, 1 and 2 to 3, and the table of three states with 2 to 1 and 1 to 0.
+  -- T with 0, 1 and 2 to 3, and T without defaults.
   abbrev to-three : ToWrite
   to-three = record { table = T; defaults = toThree; room = room 324; table-bytes = known.bytes-T; defaults-bytes = known.bytes-lists .0; room-bytes = known.bytes-room 324 }
 
-  abbrev going-down : ToWrite
-  going-down = record { table = three; defaults = downwards; room = room 314; table-bytes = known.bytes-three; defaults-bytes = known.bytes-lists .1; room-bytes = known.bytes-room 314 }
+  abbrev roots-only : ToWrite
+  roots-only = record { table = T; defaults = rootsOnly; room = room 352; table-bytes = known.bytes-T; defaults-bytes = known.bytes-lists .1; room-bytes = known.bytes-room 352 }
 
   -- It does not refuse everything.
   pub write-refuses-all : ¬ ((x : ToWrite) → ¬ (p x .number ≡ 0))
@@ -114,8 +114,8 @@ module _ (p : ToWrite → Built) (keeps : (x : ToWrite) → Writes (x .table) (x
   -- Its images are not all of one length, as one fixed image is.
   pub write-one-image : (fixed : ℕ) → ¬ ((x : ToWrite) → p x .number ≡ 0 → p x .resultLength ≡ fixed)
   write-one-image fixed wrong =
-      two-lengths (λ x. x .room) writing p keeps to-three going-down 324 314 known.write-T known.write-three (λ e. absurd (omega arith))
-      (λ z z′. wrong to-three z ∙ sym (wrong going-down z′))
+      two-lengths (λ x. x .room) writing p keeps to-three roots-only 324 352 known.write-T known.write-roots (λ e. absurd (omega arith))
+      (λ z z′. wrong to-three z ∙ sym (wrong roots-only z′))
 
 -- A program p that keeps the promise of expand.
 module _ (p : ToConvert → Built) (keeps : (x : ToConvert) → Expands (x .image) (x .room) (p x .number) (p x .resultLength) (p x .room)) where
@@ -134,6 +134,31 @@ module _ (p : ToConvert → Built) (keeps : (x : ToConvert) → Expands (x .imag
   -- It does not leave every room untouched.
   pub expand-untouched : ¬ ((x : ToConvert) → p x .room ≡ x .room)
   expand-untouched = untouched (λ x. x .room) expanding p keeps image-T 4 (known.filled-rooms .2) (λ e. absurd (omega arith))
+
+-- A program p that keeps the promise of rewrite, which can be handed what expand can.
+module _ (p : ToConvert → Built) (keeps : (x : ToConvert) → Rewrites (x .image) (x .room) (p x .number) (p x .resultLength) (p x .room)) where
+  -- Rewrite itself.
+  abbrev rewriting : ToConvert → Built
+  rewriting x = rewrite (x .image) (x .room)
+
+  -- The image of three states with 2 to 1 and 1 to 0.
+  abbrev image-three : ToConvert
+  image-three = record { image = three3; room = room 322; image-bytes = known.bytes-three3; room-bytes = known.bytes-room 322 }
+
+  -- It does not refuse everything.
+  pub rewrite-refuses-all : ¬ ((x : ToConvert) → ¬ (p x .number ≡ 0))
+  rewrite-refuses-all = refuses-all (λ x. x .room) rewriting p keeps image-three (known.rewrite-three .0)
+
+  -- It does not leave every room untouched.
+  pub rewrite-untouched : ¬ ((x : ToConvert) → p x .room ≡ x .room)
+  rewrite-untouched = untouched (λ x. x .room) rewriting p keeps image-three 3 (known.rewrite-filled .0) (λ e. absurd (omega arith))
+
+  -- It does not hand every image back as it is.
+  pub rewrite-copies : ¬ ((x : ToConvert) → p x .number ≡ 0 → p x .resultLength ≡ length (x .image))
+  rewrite-copies wrong =
+      let k = keeps image-three in
+      let q : _≡_ {A = ℕ} 322 314 = sym (k .length-is ∙ known.rewrite-three .1) ∙ wrong image-three (k .number-is ∙ known.rewrite-three .0) ∙ known.rewrite-filled .1 in
+      absurd (omega arith)
 
 -- A program p that keeps the promise of an operation that runs a payload, and rules on which the operation is known.
 module _ (operation : List ℕ → ℕ → List ℕ → List ℕ → Scanned) (rules : List ℕ) (rules-bytes : Bytes rules) (p : ToRun → Scanned)

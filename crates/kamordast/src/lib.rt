@@ -10,6 +10,7 @@ pub use image::Record;
 pub use judge::judge_image;
 pub use moves::back;
 pub use moves::forward;
+pub use rewrite::rewrite;
 pub use scan::scan;
 pub use table::judge_table;
 pub use view::Counts;
@@ -20,7 +21,7 @@ pub use view::open;
 pub use view::record_from;
 pub use view::record_of;
 pub use walk::walk;
-ghost use Rattle.paper.specs.Promises.{JudgesTable, JudgesImage, Writes, Compacts, Expands, MovesForward, MovesBack, Scans, Walks};
+ghost use Rattle.paper.specs.Promises.{JudgesTable, JudgesImage, Writes, Compacts, Expands, Rewrites, MovesForward, MovesBack, Scans, Walks};
 
 // Judges a plain table: 0, or the refusal's number.
 #[no_mangle]
@@ -89,6 +90,14 @@ pub extern "C" fn kamordast_back(image: &[u8], room: &mut [u8]) -> Built
     ensures { λ r. ⌜ MovesBack (now (image .entry)) (now (room .entry)) (r .refused) (r .length) (now (room .exit)) ⌝ }
 {
     moves::back(image, room)
+}
+
+// Rewrites an image without its defaults that share fewer than two classes, at the front of the room.
+#[no_mangle]
+pub extern "C" fn kamordast_rewrite(image: &[u8], room: &mut [u8]) -> Built
+    ensures { λ r. ⌜ Rewrites (now (image .entry)) (now (room .entry)) (r .refused) (r .length) (now (room .exit)) ⌝ }
+{
+    rewrite::rewrite(image, room)
 }
 
 // Scans a payload from a state and writes its reports at the front of the room.

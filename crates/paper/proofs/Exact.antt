@@ -14,8 +14,9 @@ use Rattle.paper.specs.Image as image
 use Rattle.paper.specs.Image.{imageGrounds}
 use Rattle.paper.specs.Results.{tableView, imageOf, moved, tableOf}
 use Rattle.paper.specs.Scan.{Run, scanOf, walkOf}
-use Rattle.paper.specs.Operations.{judgeTable, judgeImage, building, scanning, listed, compacted, compactGrounds, compact, writeGrounds, write, expandGrounds, expand, forwardGrounds, forward, backGrounds, back, runGrounds, scanGrounds, scan, walkGrounds, walk}
-use Rattle.paper.specs.Sentences.{Sentence, FirstOf, DefaultWrong, Returns, tableSentences, imageSentences, compactSentences, writeSentences, expandSentences, forwardSentences, backSentences, runSentences, scanSentences, walkSentences}
+use Rattle.paper.specs.Operations.{judgeTable, judgeImage, building, scanning, listed, compacted, compactGrounds, compact, writeGrounds, write, expandGrounds, expand, rewriteGrounds, rewrite, forwardGrounds, forward, backGrounds, back, runGrounds, scanGrounds, scan, walkGrounds, walk}
+use Rattle.paper.specs.Sentences.{Sentence, FirstOf, DefaultWrong, NotWorth, Returns, tableSentences, imageSentences, compactSentences, writeSentences, expandSentences, rewriteSentences, forwardSentences, backSentences, runSentences, scanSentences, walkSentences}
+use Rattle.paper.specs.Rewrite.{notWorth, rewritten}
 use Rattle.paper.proofs.Tests.{holds-less, holds-not-below, holds-differ, holds-or, holds-some}
 use Rattle.paper.proofs.Editions.{holds-not-one, holds-not-two}
 use Rattle.paper.proofs.Returns.{holds-returns}
@@ -23,6 +24,7 @@ use Rattle.paper.proofs.Sentences.{Says, exact, says-append}
 use Rattle.paper.proofs.TableSays.{table-says}
 use Rattle.paper.proofs.ViewSays.{holds-default, inside-list}
 use Rattle.paper.proofs.ImageSays.{image-says}
+use Rattle.paper.proofs.Worth.{holds-not-worth}
 
 -- Judging a table.
 pub judge-table-exact : (t : List ℕ) (number : ℕ) → judgeTable t ≡ number ↔ FirstOf (tableSentences t) number
@@ -76,7 +78,11 @@ write-says t ds room =
       λ not-8. (
         refl,
         holds-some n (endless v) (Returns v) (holds-returns v (inside-list v (λ w. not-8 (inr w)))),
-        λ _. (refl, holds-less room (length (imageOf t (listed ds))), λ _. tt),
+        λ _. (
+          refl,
+          holds-some n (λ s. notWorth t s (listed ds s)) (λ s. NotWorth t s (listed ds s)) (λ s hs. holds-not-worth t s (listed ds s)),
+          λ _. (refl, holds-less room (length (imageOf t (listed ds))), λ _. tt),
+        ),
       ),
     )
 
@@ -132,6 +138,18 @@ unfolding back
 back-exact b room number =
     through (backGrounds b (length room)) (backSentences b (length room)) _ number (number-building (first (backGrounds b (length room))) (moved one b) room)
     (back-says b (length room))
+
+rewrite-says : (b : List ℕ) (room : ℕ) → Says (rewriteGrounds b room) (rewriteSentences b room)
+unfolding rewriteGrounds rewriteSentences
+rewrite-says b room =
+    says-append (imageGrounds b) _ (imageSentences b) _ (image-says b) (refl, holds-less room (length (rewritten b)), λ _. tt)
+
+-- Rewrite.
+pub rewrite-exact : (b room : List ℕ) (number : ℕ) → rewrite b room .number ≡ number ↔ FirstOf (rewriteSentences b (length room)) number
+unfolding rewrite
+rewrite-exact b room number =
+    through (rewriteGrounds b (length room)) (rewriteSentences b (length room)) _ number (number-building (first (rewriteGrounds b (length room))) (rewritten b) room)
+    (rewrite-says b (length room))
 
 run-says : (n s : ℕ) (payload : List ℕ) → Says (runGrounds n s payload) (runSentences n s payload)
 run-says n s payload = (refl, holds-not-below s n, λ _. (refl, holds-less 65536 (length payload), λ _. tt))

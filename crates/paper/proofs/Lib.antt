@@ -18,6 +18,7 @@ pub mod ViewSays
 pub mod LabelSays
 pub mod TableSays
 pub mod ImageSays
+pub mod Worth
 pub mod Exact
 pub mod Refused
 pub mod Determined

@@ -7,7 +7,8 @@ use Rattle.paper.specs.Refusals.{first}
 use Rattle.paper.specs.Labels.{one, two}
 use Rattle.paper.specs.Results.{imageOf, moved, tableOf}
 use Rattle.paper.specs.Scan.{Run, scanOf, walkOf}
-use Rattle.paper.specs.Operations.{Unchanged, building, scanning, filled, listed, compacted, compactGrounds, compact, writeGrounds, write, expandGrounds, expand, forwardGrounds, forward, backGrounds, back, scanGrounds, scan, walkGrounds, walk}
+use Rattle.paper.specs.Operations.{Unchanged, building, scanning, filled, listed, compacted, compactGrounds, compact, writeGrounds, write, expandGrounds, expand, rewriteGrounds, rewrite, forwardGrounds, forward, backGrounds, back, scanGrounds, scan, walkGrounds, walk}
+use Rattle.paper.specs.Rewrite.{rewritten}
 use Rattle.paper.specs.Promises.{IsBuilt}
 
 -- A refusal answers its number and 0, and leaves the room.
@@ -48,6 +49,11 @@ forward-refused b room = building-refused (first (forwardGrounds b (length room)
 pub back-refused : (b room : List ℕ) → ¬ (back b room .number ≡ 0) → Unchanged (back b room) room
 unfolding back
 back-refused b room = building-refused (first (backGrounds b (length room))) (moved one b) room
+
+-- Rewrite.
+pub rewrite-refused : (b room : List ℕ) → ¬ (rewrite b room .number ≡ 0) → Unchanged (rewrite b room) room
+unfolding rewrite
+rewrite-refused b room = building-refused (first (rewriteGrounds b (length room))) (rewritten b) room
 
 scanning-refused : (number : ℕ) (r : Run) (room : List ℕ) → ¬ (scanning number r room .number ≡ 0)
     → (scanning number r room .taken ≡ 0) × (scanning number r room .state ≡ 0) × (scanning number r room .reports ≡ 0) × (scanning number r room .hops ≡ 0) × (scanning number r room .room ≡ room)

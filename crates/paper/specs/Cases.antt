@@ -15,7 +15,7 @@ use Rattle.paper.specs.Image.{entries, depth, worst, imageView, firstLoa
 use Rattle.paper.specs.Results.{defaultNumber, imageOf, moved}
 use Rattle.paper.specs.Forest.{Trees, weight, singles, joined, root, lean, forest}
 use Rattle.paper.specs.FallBack.{level}
-use Rattle.paper.specs.Operations.{judgeTable, judgeImage, Built, compacted, compact, listed, write, expand, forward, back, Scanned, scan, walk}
+use Rattle.paper.specs.Operations.{judgeTable, judgeImage, Built, compacted, compact, listed, write, expand, rewrite, forward, back, Scanned, scan, walk}
 use Rattle.paper.specs.Programs.{boundsText, servedText}
 
 -- The classes of the bytes where 'a' is class x, 'b' class y and every other byte 0.
@@ -65,6 +65,10 @@ aabbb = 97 ∷ 97 ∷ 98 ∷ 98 ∷ 98 ∷ []
 -- The image of T with D 2.
 abbrev pub T2 : List ℕ
 T2 = compacted T 0 2
+
+-- The image of three states with 2 to 1 and 1 to 0: write took its list until request C-22.
+abbrev pub three3 : List ℕ
+three3 = imageOf three (listed (all16 (65535 ∷ 0 ∷ 1 ∷ [])))
 
 -- T written with 0, 1 and 2 to 3.
 abbrev pub T3 : List ℕ
@@ -155,7 +159,7 @@ starred =
     ∷ (scanned (scan T2 0 aabbb (room 5)), 0 ∷ 2 ∷ 1 ∷ 0 ∷ 1 ∷ room 5)
     ∷ (built (write T (all16 (3 ∷ 3 ∷ 3 ∷ 65535 ∷ [])) (room 324)), 0 ∷ 324 ∷ 5 ∷ 1 ∷ 1 ∷ 3 ∷ 3 ∷ 3 ∷ 65535 ∷ [])
     ∷ (scanned (scan T3 0 (97 ∷ []) (room 6)), 0 ∷ 1 ∷ 1 ∷ 0 ∷ 1 ∷ room 6)
-    ∷ (built (write three (all16 (65535 ∷ 0 ∷ 1 ∷ [])) (room 314)), 0 ∷ 314 ∷ 4 ∷ 2 ∷ 1 ∷ 65535 ∷ 0 ∷ 1 ∷ [])
+    ∷ (judgeImage three3 ∷ length three3 ∷ numbers three3, 0 ∷ 314 ∷ 4 ∷ 2 ∷ 1 ∷ 65535 ∷ 0 ∷ 1 ∷ [])
     ∷ (built (compact eight 0 2 (room 340)), 0 ∷ 340 ∷ 3 ∷ 1 ∷ 1 ∷ 65535 ∷ 0 ∷ 0 ∷ 0 ∷ 0 ∷ 0 ∷ 0 ∷ 0 ∷ [])
     ∷ (map checkWord ([] ∷ (1 ∷ 2 ∷ []) ∷ (65535 ∷ 1 ∷ []) ∷ []), 65535 ∷ 65532 ∷ 65534 ∷ [])
     ∷ []
@@ -200,4 +204,11 @@ requested =
     ∷ (built (forward T2 (room 328)), 0 ∷ 328 ∷ 5 ∷ 1 ∷ 1 ∷ 65535 ∷ 0 ∷ 0 ∷ 0 ∷ [])
     ∷ (back (moved two T2) (room 324) .room, T2)
     ∷ (forward T2-two (room 330) .number ∷ back T2 (room 324) .number ∷ back T2-two (room 324) .number ∷ back (moved two T2) (room 323) .number ∷ [], 20 ∷ 20 ∷ 21 ∷ 16 ∷ [])
+    ∷ (write three (all16 (65535 ∷ 0 ∷ 1 ∷ [])) (room 314) .number ∷ write three (all16 (65535 ∷ 2 ∷ 1 ∷ [])) (room 314) .number ∷ write three (all16 (65535 ∷ 0 ∷ 1 ∷ [])) [] .number ∷ [], 25 ∷ 11 ∷ 25 ∷ [])
+    ∷ (expand three3 (room 280) .room, three)
+    ∷ (scanned (scan three3 2 (98 ∷ []) (room 6)), 0 ∷ 1 ∷ 1 ∷ 0 ∷ 1 ∷ room 6)
+    ∷ (built (rewrite three3 (room 322)), 0 ∷ 322 ∷ 6 ∷ 0 ∷ 0 ∷ 65535 ∷ 65535 ∷ 65535 ∷ [])
+    ∷ (rewrite three3 (room 321) .number ∷ [], 16 ∷ [])
+    ∷ (rewrite T2 (room 324) .room, T2)
+    ∷ (rewrite T2-two (room 330) .room, T2-two)
     ∷ []

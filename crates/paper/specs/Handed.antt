@@ -28,7 +28,7 @@ pub record ToWrite : Type 0 where
   pub defaults-bytes : Bytes defaults
   pub room-bytes : Bytes room
 
--- To expand or to move: an image and a room.
+-- To expand, to move or to rewrite: an image and a room.
 pub record ToConvert : Type 0 where
   pub image : List ℕ
   pub room : List ℕ

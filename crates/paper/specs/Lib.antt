@@ -16,6 +16,7 @@ pub mod Defaults
 pub mod Scan
 pub mod Walk
 pub mod Reached
+pub mod Rewrite
 pub mod Operations
 pub mod Text
 pub mod Programs

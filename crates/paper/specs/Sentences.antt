@@ -9,11 +9,12 @@ use Rattle.paper.specs.Below.{sum}
 use Rattle.paper.specs.Words.{words, checkWord}
 use Rattle.paper.specs.Labels.{Edition, one, two, labelCount, label}
 use Rattle.paper.specs.Table as table
-use Rattle.paper.specs.Table.{tableLength}
+use Rattle.paper.specs.Table.{shared, tableLength}
 use Rattle.paper.specs.View.{View, stored, steps}
 use Rattle.paper.specs.Image as image
 use Rattle.paper.specs.Image.{imageLength, imageView}
 use Rattle.paper.specs.Results.{tableView, imageOf, moved, tableOf}
+use Rattle.paper.specs.Rewrite.{rewritten}
 use Rattle.paper.specs.Operations.{listed, compacted}
 
 -- A sentence: the refusal's number, and when it is given.
@@ -144,13 +145,18 @@ imageSentences b =
 unfoldable pub compactSentences : List ℕ → ℕ → ℕ → ℕ → List Sentence
 compactSentences t order D room = (18, 3 < order) ∷ (tableSentences t ++ ((16, room < length (compacted t order D)) ∷ []))
 
--- Write: the table's, 8 (list length and values only), 11, 16.
+-- A default that shares fewer than two classes with its state stands in the place of a default.
+abbrev pub NotWorth : List ℕ → ℕ → Option ℕ → Type 0
+NotWorth t s o = (d : ℕ) × (o ≡ some d) × (shared t s d < 2)
+
+-- Write: the table's, 8 (list length and values only), 11, 25, 16.
 unfoldable pub writeSentences : List ℕ → List ℕ → ℕ → List Sentence
 writeSentences t ds room =
     let v = tableView t (listed ds) in
     tableSentences t
     ++ ((8, (¬ (length ds ≡ 2 * table.states t)) ⊎ Some (table.states t) (λ s. DefaultWrong v (listed ds s)))
     ∷ (11, Some (table.states t) (Returns v))
+    ∷ (25, Some (table.states t) (λ s. NotWorth t s (listed ds s)))
     ∷ (16, room < length (imageOf t (listed ds)))
     ∷ [])
 
@@ -170,6 +176,10 @@ backSentences b room =
     ∷ (21, Some (image.states b) (λ s. 1 < length (image.labels b s)))
     ∷ (16, room < length (moved one b))
     ∷ [])
+
+-- Rewrite: the image's, 16.
+unfoldable pub rewriteSentences : List ℕ → ℕ → List Sentence
+rewriteSentences b room = imageSentences b ++ ((16, room < length (rewritten b)) ∷ [])
 
 -- A payload from a state, one of n: 14, 15.
 abbrev pub runSentences : ℕ → ℕ → List ℕ → List Sentence

@@ -108,7 +108,7 @@ rows =
           ∷ compacts 0 8 321 (0 ∷ 320 ∷ []) (theImage 0)
           ∷ compacts 0 65535 17 (16 ∷ 0 ∷ []) nothing
           ∷ writes (65535 ∷ 65535 ∷ 65535 ∷ 65535 ∷ []) 8 320 (0 ∷ 320 ∷ []) (theImage 0)
-          ∷ writes (65535 ∷ 0 ∷ 65535 ∷ 65535 ∷ []) 8 127 (16 ∷ 0 ∷ []) nothing
+          ∷ writes (65535 ∷ 0 ∷ 65535 ∷ 65535 ∷ []) 8 127 (25 ∷ 0 ∷ []) nothing
           ∷ writes (1 ∷ 3 ∷ 2 ∷ 2 ∷ []) 8 7 (11 ∷ 0 ∷ []) nothing
           ∷ judges 0 (damaged 320 ([])) 0
           ∷ expands 0 whole 280 (0 ∷ 278 ∷ []) (theTable whole)

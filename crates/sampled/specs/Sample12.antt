@@ -22,8 +22,8 @@ rows =
           ∷ compacts 0 65535 316 (0 ∷ 310 ∷ []) (theImage 0)
           ∷ compacts 0 10 317 (0 ∷ 310 ∷ []) (theImage 0)
           ∷ compacts 0 2 9 (16 ∷ 0 ∷ []) nothing
-          ∷ writes (2 ∷ 65535 ∷ 65535 ∷ []) 6 314 (0 ∷ 310 ∷ []) (theImage 1)
-          ∷ writes (65535 ∷ 65535 ∷ 0 ∷ []) 6 84 (16 ∷ 0 ∷ []) nothing
+          ∷ writes (2 ∷ 65535 ∷ 65535 ∷ []) 6 314 (25 ∷ 0 ∷ []) nothing
+          ∷ writes (65535 ∷ 65535 ∷ 0 ∷ []) 6 84 (25 ∷ 0 ∷ []) nothing
           ∷ writes (0 ∷ 2 ∷ 2 ∷ []) 6 3 (11 ∷ 0 ∷ []) nothing
           ∷ judges 1 (damaged 310 ((253, 1) ∷ [])) 5
           ∷ expands 0 whole 25 (16 ∷ 0 ∷ []) nothing
@@ -110,7 +110,7 @@ rows =
       cases =
           compacts 0 1 320 (0 ∷ 320 ∷ []) (theImage 0)
           ∷ compacts 0 1 327 (0 ∷ 320 ∷ []) (theImage 0)
-          ∷ writes (3 ∷ 3 ∷ 65535 ∷ 65535 ∷ []) 8 324 (0 ∷ 316 ∷ []) (theImage 1)
+          ∷ writes (3 ∷ 3 ∷ 65535 ∷ 65535 ∷ []) 8 324 (25 ∷ 0 ∷ []) nothing
           ∷ [];
     }
     ∷ record {

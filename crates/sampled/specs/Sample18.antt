@@ -48,7 +48,7 @@ rows =
           ∷ compacts 3 3 328 (0 ∷ 328 ∷ []) (theImage 0)
           ∷ compacts 3 3 11 (16 ∷ 0 ∷ []) nothing
           ∷ writes (65535 ∷ 65535 ∷ []) 4 330 (0 ∷ 328 ∷ []) (theImage 0)
-          ∷ writes (1 ∷ 65535 ∷ []) 4 26 (16 ∷ 0 ∷ []) nothing
+          ∷ writes (1 ∷ 65535 ∷ []) 4 26 (25 ∷ 0 ∷ []) nothing
           ∷ judges 0 (damaged 328 ((280, 2) ∷ (281, 0) ∷ (326, 134) ∷ [])) 8
           ∷ judges 0 (damaged 270 ((271, 1) ∷ [])) 3
           ∷ judges 0 (damaged 328 ((274, 3) ∷ (326, 135) ∷ [])) 0
@@ -78,7 +78,7 @@ rows =
           ∷ compacts 2 1 363 (0 ∷ 360 ∷ []) (theImage 0)
           ∷ compacts 3 1 360 (0 ∷ 360 ∷ []) (theImage 0)
           ∷ compacts 3 1 284 (16 ∷ 0 ∷ []) nothing
-          ∷ writes (65535 ∷ 0 ∷ 65535 ∷ 65535 ∷ []) 8 366 (0 ∷ 364 ∷ []) (theImage 1)
+          ∷ writes (65535 ∷ 0 ∷ 65535 ∷ 65535 ∷ []) 8 366 (25 ∷ 0 ∷ []) nothing
           ∷ writes (2 ∷ 65535 ∷ 1 ∷ 4 ∷ []) 8 500 (8 ∷ 0 ∷ []) nothing
           ∷ judges 1 (damaged 364 ((350, 3) ∷ (362, 240) ∷ [])) 0
           ∷ judges 1 (damaged 276 ((271, 1) ∷ [])) 19
@@ -137,7 +137,7 @@ rows =
           ∷ compacts 2 1 352 (0 ∷ 352 ∷ []) (theImage 0)
           ∷ compacts 3 1 359 (0 ∷ 352 ∷ []) (theImage 0)
           ∷ compacts 0 1 351 (16 ∷ 0 ∷ []) nothing
-          ∷ writes (1 ∷ 65535 ∷ 4 ∷ 65535 ∷ 65535 ∷ 65535 ∷ []) 12 352 (0 ∷ 352 ∷ []) (theImage 1)
+          ∷ writes (1 ∷ 65535 ∷ 4 ∷ 65535 ∷ 65535 ∷ 65535 ∷ []) 12 352 (25 ∷ 0 ∷ []) nothing
           ∷ writes (5 ∷ 0 ∷ 1 ∷ 3 ∷ 5 ∷ 3 ∷ []) 12 500 (11 ∷ 0 ∷ []) nothing
           ∷ judges 0 (damaged 352 ((348, 1) ∷ (350, 126) ∷ [])) 13
           ∷ judges 0 (damaged 279 ((269, 1) ∷ [])) 3

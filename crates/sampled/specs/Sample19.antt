@@ -54,7 +54,7 @@ rows =
           ∷ compacts 2 3 329 (0 ∷ 324 ∷ []) (theImage 0)
           ∷ compacts 3 3 332 (0 ∷ 332 ∷ []) (theImage 1)
           ∷ compacts 3 3 331 (16 ∷ 0 ∷ []) nothing
-          ∷ writes (65535 ∷ 65535 ∷ 1 ∷ []) 6 331 (0 ∷ 328 ∷ []) (theImage 2)
+          ∷ writes (65535 ∷ 65535 ∷ 1 ∷ []) 6 331 (25 ∷ 0 ∷ []) nothing
           ∷ writes (65534 ∷ 2 ∷ 0 ∷ []) 6 6 (8 ∷ 0 ∷ []) nothing
           ∷ judges 0 (damaged 324 ((8, 1) ∷ (322, 219) ∷ [])) 2
           ∷ judges 1 (damaged 332 ((272, 19) ∷ (330, 180) ∷ [])) 19
@@ -123,7 +123,7 @@ rows =
           ∷ compacts 3 2 384 (0 ∷ 378 ∷ []) (theImage 1)
           ∷ compacts 3 2 377 (16 ∷ 0 ∷ []) nothing
           ∷ writes (65535 ∷ 65535 ∷ 65535 ∷ 65535 ∷ 65535 ∷ []) 10 386 (0 ∷ 386 ∷ []) (theImage 2)
-          ∷ writes (1 ∷ 65535 ∷ 3 ∷ 65535 ∷ 65535 ∷ []) 10 381 (16 ∷ 0 ∷ []) nothing
+          ∷ writes (1 ∷ 65535 ∷ 3 ∷ 65535 ∷ 65535 ∷ []) 10 381 (25 ∷ 0 ∷ []) nothing
           ∷ judges 1 (damaged 378 ((6, 2) ∷ (376, 127) ∷ [])) 13
           ∷ judges 2 (damaged 386 ((288, 8) ∷ (384, 100) ∷ [])) 0
           ∷ judges 0 (damaged 276 ((273, 1) ∷ [])) 3
@@ -161,7 +161,7 @@ rows =
           ∷ compacts 2 2 370 (0 ∷ 370 ∷ []) (theImage 0)
           ∷ compacts 3 2 370 (0 ∷ 370 ∷ []) (theImage 1)
           ∷ compacts 0 2 71 (16 ∷ 0 ∷ []) nothing
-          ∷ writes (4 ∷ 4 ∷ 65535 ∷ 65535 ∷ 65535 ∷ 4 ∷ []) 12 366 (0 ∷ 366 ∷ []) (theImage 2)
+          ∷ writes (4 ∷ 4 ∷ 65535 ∷ 65535 ∷ 65535 ∷ 4 ∷ []) 12 366 (25 ∷ 0 ∷ []) nothing
           ∷ writes (1 ∷ 65535 ∷ 65535 ∷ 65535 ∷ 65535 ∷ 4 ∷ 0 ∷ []) 13 8 (8 ∷ 0 ∷ []) nothing
           ∷ judges 0 (damaged 370 ((324, 5) ∷ (368, 168) ∷ [])) 0
           ∷ judges 2 (damaged 366 ((288, 0) ∷ (289, 0) ∷ (364, 134) ∷ (365, 246) ∷ [])) 19

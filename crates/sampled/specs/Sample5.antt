@@ -67,7 +67,7 @@ rows =
       cases =
           compacts 0 2 360 (0 ∷ 360 ∷ []) (theImage 0)
           ∷ compacts 0 3 355 (0 ∷ 348 ∷ []) (theImage 1)
-          ∷ writes (65535 ∷ 3 ∷ 65535 ∷ 65535 ∷ []) 8 384 (0 ∷ 384 ∷ []) (theImage 2)
+          ∷ writes (65535 ∷ 3 ∷ 65535 ∷ 65535 ∷ []) 8 384 (25 ∷ 0 ∷ []) nothing
           ∷ [];
     }
     ∷ record {

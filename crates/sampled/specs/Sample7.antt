@@ -79,7 +79,7 @@ rows =
       cases =
           compacts 0 1 350 (0 ∷ 350 ∷ []) (theImage 0)
           ∷ compacts 0 65535 354 (0 ∷ 350 ∷ []) (theImage 0)
-          ∷ writes (65535 ∷ 2 ∷ 4 ∷ 65535 ∷ 0 ∷ []) 10 349 (0 ∷ 342 ∷ []) (theImage 1)
+          ∷ writes (65535 ∷ 2 ∷ 4 ∷ 65535 ∷ 0 ∷ []) 10 349 (25 ∷ 0 ∷ []) nothing
           ∷ [];
     }
     ∷ record {

@@ -44,7 +44,8 @@ rows =
       cases =
           compacts 0 3 317 (0 ∷ 314 ∷ []) (theImage 0)
           ∷ compacts 0 2 313 (16 ∷ 0 ∷ []) nothing
-          ∷ writes (65535 ∷ 0 ∷ 1 ∷ []) 6 309 (16 ∷ 0 ∷ []) nothing
+          ∷ writes (65535 ∷ 0 ∷ 1 ∷ []) 6 309 (25 ∷ 0 ∷ []) nothing
+          ∷ writes (65535 ∷ 0 ∷ 65535 ∷ []) 6 314 (0 ∷ 314 ∷ []) (theImage 0)
           ∷ [];
     }
     ∷ record {
@@ -61,7 +62,7 @@ rows =
       cases =
           compacts 0 1 328 (0 ∷ 328 ∷ []) (theImage 0)
           ∷ compacts 0 1 329 (0 ∷ 328 ∷ []) (theImage 0)
-          ∷ writes (2 ∷ 65535 ∷ 65535 ∷ 1 ∷ []) 8 328 (0 ∷ 328 ∷ []) (theImage 1)
+          ∷ writes (2 ∷ 65535 ∷ 65535 ∷ 1 ∷ []) 8 328 (25 ∷ 0 ∷ []) nothing
           ∷ [];
     }
     ∷ record {

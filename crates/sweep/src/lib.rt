@@ -31,7 +31,7 @@ pub fn defaults_of(image: &[u8], n: usize, m: usize) -> [u16; 512]
 }
 
 // The next state of the entry at a place, if the place is before `end` and the entry is of the class; 65535 for none.
-fn own_at(image: &[u8], at: u32, end: u32, class: u16) -> u16
+pub fn own_at(image: &[u8], at: u32, end: u32, class: u16) -> u16
     requires { ⌜ (end ≤ length (now image)) × (at < end → at + 4 ≤ end) ⌝ }
     ensures { λ r. ⌜ r ≡ ownAt (now (image .entry)) at end class ⌝ }
 {
@@ -45,7 +45,7 @@ fn own_at(image: &[u8], at: u32, end: u32, class: u16) -> u16
 }
 
 // The place behind an entry that was taken; the same place where none was.
-fn next_place(at: u32, taken: u16) -> u32
+pub fn next_place(at: u32, taken: u16) -> u32
     requires { ⌜ at ≤ 600000 ⌝ }
     ensures { λ r. ⌜ r ≡ behind at taken ⌝ }
 {
@@ -56,7 +56,7 @@ fn next_place(at: u32, taken: u16) -> u32
 }
 
 // What each state stores for the class, 65535 for nothing; the cursors go behind it.
-fn take_class(
+pub fn take_class(
     image: &[u8],
     n: usize,
     class: u16,

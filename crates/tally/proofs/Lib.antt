@@ -1,2 +1,3 @@
 pub mod Counting
 pub mod Owned
+pub mod Shared

@@ -1,9 +1,10 @@
 -- Which classes a state of a table keeps as entries, by the default that it falls to.
 use mathlib.Core.Path.{_≡_}
-use mathlib.Core.Bool.{Bool, true}
+use mathlib.Core.Bool.{Bool, true, false}
 use mathlib.Core.List.{List}
 use mathlib.Core.Option.{Option, none, some}
-use Prim.Native.Nat.{ℕ, _<_}
+use Prim.Native.Nat.{ℕ, _+_, _<_}
+use lib.Dec.{ltb}
 use lib.ListN.{getD}
 use Rattle.paper.specs.Below.{howMany, differ}
 use Rattle.paper.specs.Table.{classes, next}
@@ -21,3 +22,8 @@ keptCount t k s d = howMany k (λ c. kept t s c (defaultFrom d))
 -- The list holds for each state below n how many classes it keeps, with the defaults of another list.
 abbrev pub Counts : List ℕ → ℕ → List ℕ → List ℕ → Type 0
 Counts t n def counts = (s : ℕ) → s < n → getD counts s 0 ≡ keptCount t (classes t) s (getD def s 0)
+
+-- A state that keeps so many of k classes and has this default shares fewer than two with it.
+abbrev pub sharesFew : ℕ → ℕ → Option ℕ → Bool
+sharesFew k count none = false
+sharesFew k count (some d) = ltb k (count + 2)

@@ -2,13 +2,13 @@
 ghost use mathlib.Core.Path.{_≡_};
 ghost use Prim.Native.Nat.{_≤_, _<_, max};
 ghost use lib.ListN.{getD};
-ghost use Rattle.paper.specs.Below.{sum};
+ghost use Rattle.paper.specs.Below.{any, sum};
 ghost use Rattle.paper.specs.Table.{classOf};
 ghost use Rattle.paper.specs.View.{worstOf};
 ghost use Rattle.paper.specs.Image.{defaultFrom};
 ghost use Rattle.table.specs.Counted.{Counted};
 ghost use Rattle.chains.specs.Orders.{InRange};
-ghost use Rattle.tally.specs.Kept.{kept, keptCount, Counts};
+ghost use Rattle.tally.specs.Kept.{kept, keptCount, Counts, sharesFew};
 ghost use Rattle.tally.specs.Owned.{listView, ownNumber, Owns, mostHops, Ordered};
 
 // Whether state s, whose default is d or which has none, keeps class c as an entry.
@@ -48,6 +48,31 @@ pub fn counts_of(t: &[u8], n: usize, k: usize, def: &[u16; 512]) -> [u16; 512]
         counts[s] = count;
     }
     counts
+}
+
+// Whether a state that keeps so many of k classes and has the default d, or none, shares fewer than two with it: what it does not keep it shares.
+pub fn shares_few(d: u16, count: u16, k: usize) -> bool
+    ensures { λ r. ⌜ r ≡ sharesFew k count (defaultFrom d) ⌝ }
+{
+    if d == 65535 {
+        return false;
+    }
+    k < count as usize + 2
+}
+
+// 25: whether some state shares fewer than two classes with its default.
+pub fn some_share_few(def: &[u16; 512], counts: &[u16; 512], n: usize, k: usize) -> bool
+    requires { ⌜ n ≤ 512 ⌝ }
+    ensures { λ r. ⌜ r ≡ any n (λ s. sharesFew k (getD (now (counts .entry)) s 0) (defaultFrom (getD (now (def .entry)) s 0))) ⌝ }
+{
+    for s in 0..n {
+        let d = def[s];
+        let count = counts[s];
+        if shares_few(d, count, k) {
+            return true;
+        }
+    }
+    false
 }
 
 // A number of 16 bits in 32.

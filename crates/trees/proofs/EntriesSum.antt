@@ -10,7 +10,7 @@ use lib.Dec.{eqb}
 use lib.ListN.{length}
 use borrow.Author.Tests.{eq-eqb, ne-eqb}
 use Rattle.paper.specs.Below.{sum, howMany, bit, given}
-use Rattle.paper.specs.Table.{states, classes, next}
+use Rattle.paper.specs.Table.{states, classes, next, shared}
 use Rattle.paper.specs.Results.{entriesOf}
 use Rattle.paper.specs.Forest.{Trees, weight, singles, joined, weightsOf, lean, forest, towardRoot}
 use Rattle.paper.proofs.Sums.{sum-same, sum-add, sum-constant}
@@ -97,6 +97,11 @@ module _ (t : List ℕ) where
         let (_, N) = pointsTo-some (states t) (lean (states t)) (forest t order D) s d e in
         forest-weighed .heavy s d (N .mate, N .step)
 
+    -- It shares two classes or more with it.
+    pub default-shares : (s d : ℕ) → towardRoot t order D s ≡ some d → 2 ≤ shared t s d
+    unfolding weight
+    default-shares s d e = omega (arith, default-heavy s d e)
+
     -- What a state stores, whether it has a default, and the weight of the two make k.
     state-sum : (s : ℕ) → length (entriesOf t (towardRoot t order D) s) + (bit (given (towardRoot t order D s)) + defaultValue (towardRoot t order D s) (weight t s)) ≡ classes t
     unfolding weight
@@ -114,6 +119,6 @@ entries-sum t order D =
     let f = towardRoot t order D in
     let stored : ℕ → ℕ = λ s. length (entriesOf t f s) in
     let used : ℕ → ℕ = λ s. bit (given (f s)) in
-    let shared : ℕ → ℕ = λ s. defaultValue (f s) (weight t s) in
-    let all : sum n (λ s. stored s + (used s + shared s)) ≡ n * classes t = sum-same n (λ s. stored s + (used s + shared s)) (λ s. classes t) (λ s h. state-sum t order D s) ∙ sum-constant n (classes t) in
-    omega (arith, all, sum-add n stored (λ s. used s + shared s), sum-add n used shared, falls-added t order D)
+    let weighs : ℕ → ℕ = λ s. defaultValue (f s) (weight t s) in
+    let all : sum n (λ s. stored s + (used s + weighs s)) ≡ n * classes t = sum-same n (λ s. stored s + (used s + weighs s)) (λ s. classes t) (λ s h. state-sum t order D s) ∙ sum-constant n (classes t) in
+    omega (arith, all, sum-add n stored (λ s. used s + weighs s), sum-add n used weighs, falls-added t order D)

@@ -51,7 +51,8 @@ module _ (v w : View) (S : Agree v w) where
   pub total-same : sum (v .states) (v .count) ≡ sum (w .states) (w .count)
   total-same = sum-same (v .states) (v .count) (w .count) (S .count-same) ∙ ap (λ (x : ℕ). sum x (w .count)) (S .states-same)
 
-  stored-same : (s c : ℕ) → s < v .states → stored v s c ≡ stored w s c
+  -- They store the same.
+  pub stored-same : (s c : ℕ) → s < v .states → stored v s c ≡ stored w s c
   unfolding stored
   stored-same s c hs =
       firstOf-same (v .count s) (λ j. when (eqb (v .entryClass s j) c) (v .entryNext s j)) (λ j. when (eqb (w .entryClass s j) c) (w .entryNext s j))

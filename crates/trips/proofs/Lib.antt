@@ -9,6 +9,8 @@ pub mod Unique
 pub mod Picked
 pub mod TableViews
 pub mod Writable
+pub mod Hops
+pub mod Dropped
 pub mod TableBytes
 pub mod ImageParts
 pub mod ImageReads
@@ -19,11 +21,13 @@ pub mod TableOf
 pub mod Lengths
 pub mod ResultBytes
 pub mod DefaultsWritable
+pub mod Rewritten
 pub mod Building
 pub mod Verdict
 pub mod Accepts
 pub mod ExpandsBack
 pub mod WritesBack
+pub mod WorthBuilt
 pub mod EditionKept
 pub mod Moved
 pub mod Moves

@@ -8,6 +8,7 @@ use Rattle.paper.specs.Labels.{statesOf}
 use Rattle.paper.specs.Table.{states}
 use Rattle.paper.specs.Operations.{judgeTable}
 use Rattle.facts.proofs.TableFacts.{accepted-table}
+use Rattle.table.proofs.Next.{accepted-counted}
 use Rattle.chains.specs.Orders.{InRange}
 use Rattle.build.proofs.Lists.{list-ordered}
 use Rattle.build.proofs.Chosen.{chosen-range, chosen-ends, compact-unknown, compact-judged, compact-fills}
@@ -92,13 +93,22 @@ order-of-requires c κs =
     let d = read .before .before in
     (omega (arith, counted read, accepted-table (now (begun (d .before) .args .table)) (accepted d) .few-states), range (c .before))
 
+counts-of-requires : tie.Need-counts-of-requires
+counts-of-requires c κs =
+    let chosen = c .before .before .before .before in
+    let read = chosen .before .before in
+    let t = now (begun (read .before .before .before) .args .table) in
+    (accepted-counted t (read .states-of .result) (chosen .before .get162 .result) (counted read) (chosen .before .get162 .ensures) (accepted-table t (accepted (read .before .before))), range chosen)
+
 image-into-requires : tie.Need-image-into-requires
 image-into-requires c κs =
-    let order = c .before .before .before .before in
+    let counts = c .before .before .before .before in
+    let order = counts .before .before .before in
     let chosen = order .before .before in
     let read = chosen .before .before in
     let a = begun (read .before .before .before) .args in
-    list-ordered (accepted-table (now (a .table)) (accepted (read .before .before))) (counted read) (chosen .before .get162 .ensures) (range chosen) (order .order-of .ensures .1 (ends order))
+    let O = list-ordered (accepted-table (now (a .table)) (accepted (read .before .before))) (counted read) (chosen .before .get162 .ensures) (range chosen) (order .order-of .ensures .1 (ends order)) in
+    (O .0, O .1, counts .counts-of .ensures)
 
 same-length : tie.Need-same-length
 same-length c = c .before .room .given
@@ -106,7 +116,7 @@ same-length c = c .before .room .given
 returns-3 : tie.Need-returns-3
 returns-3 c =
     let image = c .before .before in
-    let order = image .before .before .before .before .before in
+    let order = image .before .before .before .before .before .before .before .before in
     let chosen = order .before .before in
     let read = chosen .before .before in
     let a = begun (read .before .before .before) .args in
@@ -129,6 +139,7 @@ compact-spec =
     cast-defaults-of
     defaults-of-requires
     order-of-requires
+    counts-of-requires
     image-into-requires
     same-length
     returns-3)

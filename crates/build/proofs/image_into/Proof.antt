@@ -2,7 +2,6 @@
 use mathlib.Core.Path.{sym, _∙_}
 use denote.Ref.{now}
 use native.Mathlib.Omega.{arith}
-use Rattle.table.proofs.Next.{accepted-counted}
 use Rattle.build.specs.Measured.{listImage, Measured}
 use Rattle.labels.proofs.Editions.{behind-named}
 use Rattle.build.proofs.Counted.{total-few, held-few, image-long}
@@ -10,18 +9,12 @@ use Rattle.build.proofs.Grounds.{fills-refused, fills-built}
 use Rattle.build.proofs.image_into.Statement.{statement}
 use Rattle.build.proofs.image_into.Tie as tie
 
-counts-of-requires : tie.Need-counts-of-requires
-counts-of-requires c κs =
-    let s = c .before .before in
-    let O = s .pre .0 in
-    (accepted-counted (now (s .args .t)) (s .args .n) (s .args .k) (O .states-are) (O .classes-are) (O .accepted), O .range)
-
 sum-of-requires : tie.Need-sum-of-requires
-sum-of-requires c κs = let O = c .before .before .before .before .pre .0 in omega (arith, O .states-are, O .accepted .few-states)
+sum-of-requires c κs = let O = c .before .before .pre .0 in omega (arith, O .states-are, O .accepted .few-states)
 
 -- The function's entry, from where the counts are summed.
 abbrev begun : tie.After-sum-of → tie.Start
-begun c = c .before .before .before .before .before
+begun c = c .before .before .before
 
 get16-requires : tie.Need-get16-requires
 get16-requires c κs = omega (arith, begun c .pre .0 .accepted .long)
@@ -30,8 +23,8 @@ behind-requires : tie.Need-behind-requires
 behind-requires c κs = let O = begun (c .before) .pre .0 in omega (arith, O .states-are, O .accepted .few-states, O .accepted .long)
 
 -- What is counted.
-measured : (c : tie.After-behind) → let summed = c .before .before in let counts = summed .before .before in let a = begun summed .args in
-    Measured (now (a .t)) (a .n) (a .k) (c .behind .result) (now (a .def)) (counts .counts-of .result) (summed .sum-of .result)
+measured : (c : tie.After-behind) → let summed = c .before .before in let a = begun summed .args in
+    Measured (now (a .t)) (a .n) (a .k) (c .behind .result) (now (a .def)) (now (a .counts)) (summed .sum-of .result)
 measured c =
     let summed = c .before .before in
     let s = begun summed in
@@ -42,7 +35,7 @@ measured c =
       classes-are = O .classes-are;
       held-are = c .behind .ensures .0 ∙ behind-named (now (s .args .t)) 262 (O .states-are) (c .before .get16 .ensures);
       range = O .range;
-      counted = summed .before .before .counts-of .ensures;
+      counted = s .pre .2;
       total-is = summed .sum-of .ensures;
     }
 
@@ -68,7 +61,7 @@ worst-of-requires c κs = begun (c .before .before .before .before) .pre .0
 
 emit-requires : tie.Need-emit-requires
 emit-requires c κs =
-    let worst = c .before .before in
+    let worst = c .before in
     let whole = worst .before .before in
     (measured (whole .before), begun (whole .before .before .before) .pre .1, worst .worst-of .ensures, omega (arith, worst .before .if1 .left, whole .image-length .ensures))
 
@@ -78,7 +71,7 @@ same-length c = c .before .room .given
 returns-2 : tie.Need-returns-2
 returns-2 c =
     let emitted = c .before .before in
-    let skipped = emitted .before .before .before .before in
+    let skipped = emitted .before .before .before in
     let whole = skipped .before in
     let long = image-long (measured (whole .before)) in
     let a = begun (whole .before .before .before) .args in
@@ -88,7 +81,6 @@ pub image-into-spec : {M : Type 1} → statement M
 image-into-spec =
     tie.close
     (tie.spec
-    counts-of-requires
     sum-of-requires
     get16-requires
     behind-requires

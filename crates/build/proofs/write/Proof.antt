@@ -1,4 +1,4 @@
--- Each ground in its order: the table's, 8, 11, 16; past them the image of the defaults listed.
+-- Each ground in its order: the table's, 8, 11, 25, 16; past them the image of the defaults listed.
 use mathlib.Core.Path.{_≡_, sym, ap, _∙_}
 use mathlib.Core.Bool.{false}
 use denote.Ref.{now}
@@ -7,10 +7,11 @@ use Rattle.paper.specs.Labels.{statesOf}
 use Rattle.paper.specs.Table.{states}
 use Rattle.paper.specs.Operations.{judgeTable}
 use Rattle.facts.proofs.TableFacts.{accepted-table}
+use Rattle.table.proofs.Next.{accepted-counted}
 use Rattle.chains.specs.Orders.{InRange}
 use Rattle.build.specs.Values.{listBad}
 use Rattle.build.proofs.Lists.{list-ordered}
-use Rattle.build.proofs.Listed.{list-long, values-range, write-judged, write-bad, write-endless, write-fills}
+use Rattle.build.proofs.Listed.{list-long, values-range, write-judged, write-bad, write-endless, write-not-worth, write-fills}
 use Rattle.build.proofs.write.Statement.{statement}
 use Rattle.build.proofs.write.Tie as tie
 
@@ -105,29 +106,65 @@ returns-3 c =
     (right (values .before)) (values .values-of .result) (values .values-of .ensures)
     (sym (order .order-of .ensures .0) ∙ c .before .if3 .taken) (c .not-built3 .ensures .0) (c .not-built3 .ensures .1)
 
-image-into-requires : tie.Need-image-into-requires
-image-into-requires c κs =
-    let tested = c .before .before .before .before in
+counts-of-requires : tie.Need-counts-of-requires
+counts-of-requires c κs =
+    let values = c .before .before .before .before .before in
+    let read = values .before .before .before .before in
+    let t = now (begun (read .before .before .before) .args .table) in
+    let k = values .before .before .before .get162 in
+    (accepted-counted t (read .states-of .result) (k .result) (counted read) (k .ensures) (accepted-table t (accepted (read .before .before))), range values)
+
+some-share-few-requires : tie.Need-some-share-few-requires
+some-share-few-requires c κs =
+    let read = c .before .before .before .before .before .before .before .before .before .before .before .before in
+    let d = read .before .before in
+    omega (arith, counted read, accepted-table (now (begun (d .before) .args .table)) (accepted d) .few-states)
+
+not-built-requires-4 : tie.Need-not-built-requires-4
+not-built-requires-4 c κs = tt
+
+returns-4 : tie.Need-returns-4
+returns-4 c =
+    let weighed = c .before .before in
+    let counts = weighed .before .before .before in
+    let tested = counts .before .before .before in
     let order = tested .before in
     let values = order .before .before in
     let read = values .before .before .before .before in
     let a = begun (read .before .before .before) .args in
-    list-ordered (accepted-table (now (a .table)) (accepted (read .before .before))) (counted read) (values .before .before .before .get162 .ensures) (range values) (order .order-of .ensures .1 (tested .if3 .left))
+    write-not-worth (now (a .table)) (now (a .defaults)) (now (a .room)) _ _ (accepted (read .before .before)) (read .states-of .result) (counted read)
+    (right (values .before)) (values .values-of .result) (values .values-of .ensures) (sym (order .order-of .ensures .0) ∙ tested .if3 .left)
+    (values .before .before .before .get162 .result) (values .before .before .before .get162 .ensures) (counts .counts-of .result) (counts .counts-of .ensures)
+    (sym (weighed .some-share-few .ensures) ∙ c .before .if4 .taken) (c .not-built4 .ensures .0) (c .not-built4 .ensures .1)
+
+image-into-requires : tie.Need-image-into-requires
+image-into-requires c κs =
+    let counts = c .before .before .before .before .before .before .before .before in
+    let tested = counts .before .before .before in
+    let order = tested .before in
+    let values = order .before .before in
+    let read = values .before .before .before .before in
+    let a = begun (read .before .before .before) .args in
+    let O = list-ordered (accepted-table (now (a .table)) (accepted (read .before .before))) (counted read) (values .before .before .before .get162 .ensures) (range values) (order .order-of .ensures .1 (tested .if3 .left)) in
+    (O .0, O .1, counts .counts-of .ensures)
 
 same-length : tie.Need-same-length
 same-length c = c .before .room .given
 
-returns-4 : tie.Need-returns-4
-returns-4 c =
+returns-5 : tie.Need-returns-5
+returns-5 c =
     let image = c .before .before in
-    let tested = image .before .before .before .before .before in
+    let weighed = image .before .before .before .before .before in
+    let counts = weighed .before .before .before .before in
+    let tested = counts .before .before .before in
     let order = tested .before in
     let values = order .before .before in
     let read = values .before .before .before .before in
     let a = begun (read .before .before .before) .args in
     write-fills (now (a .table)) (now (a .defaults)) (now (a .room)) _ _ (accepted (read .before .before)) (read .states-of .result) (counted read)
-    (right (values .before)) (values .values-of .result) (values .values-of .ensures) _
-    (sym (order .order-of .ensures .0) ∙ tested .if3 .left) (image .image-into .ensures)
+    (right (values .before)) (values .values-of .result) (values .values-of .ensures) (sym (order .order-of .ensures .0) ∙ tested .if3 .left)
+    (values .before .before .before .get162 .result) (values .before .before .before .get162 .ensures) (counts .counts-of .result) (counts .counts-of .ensures) _
+    (sym (weighed .before .some-share-few .ensures) ∙ weighed .if4 .left) (image .image-into .ensures)
 
 pub write-spec : {M : Type 1} → statement M
 write-spec =
@@ -147,6 +184,10 @@ write-spec =
     order-of-requires
     not-built-requires-3
     returns-3
+    counts-of-requires
+    some-share-few-requires
+    not-built-requires-4
+    returns-4
     image-into-requires
     same-length
-    returns-4)
+    returns-5)
