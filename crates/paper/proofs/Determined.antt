@@ -3,7 +3,7 @@ use mathlib.Core.Path.{_≡_, sym, _∙_}
 use mathlib.Core.List.{List}
 use Prim.Native.Nat.{ℕ}
 use Rattle.paper.specs.Operations.{Built, Scanned}
-use Rattle.paper.specs.Promises.{IsBuilt, IsScanned, SameBuilt, JudgesTable, JudgesImage, Compacts, Writes, Expands, Rewrites, MovesForward, MovesBack, Scans, Walks}
+use Rattle.paper.specs.Promises.{IsBuilt, IsScanned, SameBuilt, JudgesTable, JudgesImage, Compacts, Writes, Expands, Rewrites, Tabulates, Reduces, MovesForward, MovesBack, Scans, Walks}
 
 -- Two answers to one question are one.
 one : {A : Type 0} {x y z : A} → x ≡ z → y ≡ z → x ≡ y
@@ -60,6 +60,16 @@ back-determined b room = built-determined _
 pub rewrite-determined : (b room : List ℕ) (n l n′ l′ : ℕ) (r r′ : List ℕ)
     → Rewrites b room n l r → Rewrites b room n′ l′ r′ → SameBuilt n l r n′ l′ r′
 rewrite-determined b room = built-determined _
+
+-- Strings.
+pub strings-determined : (b room : List ℕ) (n l n′ l′ : ℕ) (r r′ : List ℕ)
+    → Tabulates b room n l r → Tabulates b room n′ l′ r′ → SameBuilt n l r n′ l′ r′
+strings-determined b room = built-determined _
+
+-- Reduce.
+pub reduce-determined : (t room : List ℕ) (n l n′ l′ : ℕ) (r r′ : List ℕ)
+    → Reduces t room n l r → Reduces t room n′ l′ r′ → SameBuilt n l r n′ l′ r′
+reduce-determined t room = built-determined _
 
 -- Scan.
 pub scan-determined : (b : List ℕ) (s : ℕ) (payload room : List ℕ) (n t q k h n′ t′ q′ k′ h′ : ℕ) (r r′ : List ℕ)

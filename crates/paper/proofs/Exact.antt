@@ -14,9 +14,11 @@ use Rattle.paper.specs.Image as image
 use Rattle.paper.specs.Image.{imageGrounds}
 use Rattle.paper.specs.Results.{tableView, imageOf, moved, tableOf}
 use Rattle.paper.specs.Scan.{Run, scanOf, walkOf}
-use Rattle.paper.specs.Operations.{judgeTable, judgeImage, building, scanning, listed, compacted, compactGrounds, compact, writeGrounds, write, expandGrounds, expand, rewriteGrounds, rewrite, forwardGrounds, forward, backGrounds, back, runGrounds, scanGrounds, scan, walkGrounds, walk}
-use Rattle.paper.specs.Sentences.{Sentence, FirstOf, DefaultWrong, NotWorth, Returns, tableSentences, imageSentences, compactSentences, writeSentences, expandSentences, rewriteSentences, forwardSentences, backSentences, runSentences, scanSentences, walkSentences}
+use Rattle.paper.specs.Operations.{judgeTable, judgeImage, building, scanning, listed, compacted, compactGrounds, compact, writeGrounds, write, expandGrounds, expand, rewriteGrounds, rewrite, stringsGrounds, strings, reduceGrounds, reduce, forwardGrounds, forward, backGrounds, back, runGrounds, scanGrounds, scan, walkGrounds, walk}
+use Rattle.paper.specs.Sentences.{Sentence, FirstOf, DefaultWrong, NotWorth, Returns, tableSentences, imageSentences, compactSentences, writeSentences, expandSentences, rewriteSentences, stringsSentences, reduceSentences, forwardSentences, backSentences, runSentences, scanSentences, walkSentences}
 use Rattle.paper.specs.Rewrite.{notWorth, rewritten}
+use Rattle.paper.specs.Strings.{tabulated}
+use Rattle.paper.specs.Reduce.{reduced}
 use Rattle.paper.proofs.Tests.{holds-less, holds-not-below, holds-differ, holds-or, holds-some}
 use Rattle.paper.proofs.Editions.{holds-not-one, holds-not-two}
 use Rattle.paper.proofs.Returns.{holds-returns}
@@ -25,6 +27,7 @@ use Rattle.paper.proofs.TableSays.{table-says}
 use Rattle.paper.proofs.ViewSays.{holds-default, inside-list}
 use Rattle.paper.proofs.ImageSays.{image-says}
 use Rattle.paper.proofs.Worth.{holds-not-worth}
+use Rattle.paper.proofs.StringsSay.{strings-say}
 
 -- Judging a table.
 pub judge-table-exact : (t : List ℕ) (number : ℕ) → judgeTable t ≡ number ↔ FirstOf (tableSentences t) number
@@ -150,6 +153,25 @@ unfolding rewrite
 rewrite-exact b room number =
     through (rewriteGrounds b (length room)) (rewriteSentences b (length room)) _ number (number-building (first (rewriteGrounds b (length room))) (rewritten b) room)
     (rewrite-says b (length room))
+
+-- Strings.
+pub strings-exact : (b room : List ℕ) (number : ℕ) → strings b room .number ≡ number ↔ FirstOf (stringsSentences b (length room)) number
+unfolding strings
+strings-exact b room number =
+    through (stringsGrounds b (length room)) (stringsSentences b (length room)) _ number (number-building (first (stringsGrounds b (length room))) (tabulated b) room)
+    (strings-say b (length room))
+
+reduce-says : (t : List ℕ) (room : ℕ) → Says (reduceGrounds t room) (reduceSentences t room)
+unfolding reduceGrounds reduceSentences
+reduce-says t room =
+    says-append (tableGrounds t) _ (tableSentences t) _ (table-says t) (refl, holds-less room (length (reduced t)), λ _. tt)
+
+-- Reduce.
+pub reduce-exact : (t room : List ℕ) (number : ℕ) → reduce t room .number ≡ number ↔ FirstOf (reduceSentences t (length room)) number
+unfolding reduce
+reduce-exact t room number =
+    through (reduceGrounds t (length room)) (reduceSentences t (length room)) _ number (number-building (first (reduceGrounds t (length room))) (reduced t) room)
+    (reduce-says t (length room))
 
 run-says : (n s : ℕ) (payload : List ℕ) → Says (runGrounds n s payload) (runSentences n s payload)
 run-says n s payload = (refl, holds-not-below s n, λ _. (refl, holds-less 65536 (length payload), λ _. tt))

@@ -19,6 +19,7 @@ pub mod LabelSays
 pub mod TableSays
 pub mod ImageSays
 pub mod Worth
+pub mod StringsSay
 pub mod Exact
 pub mod Refused
 pub mod Determined

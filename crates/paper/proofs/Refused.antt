@@ -7,8 +7,10 @@ use Rattle.paper.specs.Refusals.{first}
 use Rattle.paper.specs.Labels.{one, two}
 use Rattle.paper.specs.Results.{imageOf, moved, tableOf}
 use Rattle.paper.specs.Scan.{Run, scanOf, walkOf}
-use Rattle.paper.specs.Operations.{Unchanged, building, scanning, filled, listed, compacted, compactGrounds, compact, writeGrounds, write, expandGrounds, expand, rewriteGrounds, rewrite, forwardGrounds, forward, backGrounds, back, scanGrounds, scan, walkGrounds, walk}
+use Rattle.paper.specs.Operations.{Unchanged, building, scanning, filled, listed, compacted, compactGrounds, compact, writeGrounds, write, expandGrounds, expand, rewriteGrounds, rewrite, stringsGrounds, strings, reduceGrounds, reduce, forwardGrounds, forward, backGrounds, back, scanGrounds, scan, walkGrounds, walk}
 use Rattle.paper.specs.Rewrite.{rewritten}
+use Rattle.paper.specs.Strings.{tabulated}
+use Rattle.paper.specs.Reduce.{reduced}
 use Rattle.paper.specs.Promises.{IsBuilt}
 
 -- A refusal answers its number and 0, and leaves the room.
@@ -54,6 +56,16 @@ back-refused b room = building-refused (first (backGrounds b (length room))) (mo
 pub rewrite-refused : (b room : List ℕ) → ¬ (rewrite b room .number ≡ 0) → Unchanged (rewrite b room) room
 unfolding rewrite
 rewrite-refused b room = building-refused (first (rewriteGrounds b (length room))) (rewritten b) room
+
+-- Strings.
+pub strings-refused : (b room : List ℕ) → ¬ (strings b room .number ≡ 0) → Unchanged (strings b room) room
+unfolding strings
+strings-refused b room = building-refused (first (stringsGrounds b (length room))) (tabulated b) room
+
+-- Reduce.
+pub reduce-refused : (t room : List ℕ) → ¬ (reduce t room .number ≡ 0) → Unchanged (reduce t room) room
+unfolding reduce
+reduce-refused t room = building-refused (first (reduceGrounds t (length room))) (reduced t) room
 
 scanning-refused : (number : ℕ) (r : Run) (room : List ℕ) → ¬ (scanning number r room .number ≡ 0)
     → (scanning number r room .taken ≡ 0) × (scanning number r room .state ≡ 0) × (scanning number r room .reports ≡ 0) × (scanning number r room .hops ≡ 0) × (scanning number r room .room ≡ room)

@@ -4,6 +4,7 @@ use mathlib.Core.Bool.{true, _&&_}
 use mathlib.Core.List.{List, [], _∷_, _++_}
 use Prim.Native.Nat.{ℕ}
 use lib.ListN.{replicate, take}
+use Rattle.paper.specs.Below.{same}
 use Rattle.paper.specs.Words.{number16, number32, bytes16, all16, bytes32, _⊕_, checkWord}
 use Rattle.paper.specs.Labels.{labelCount, label, labelsFrom, labelsBehind}
 use Rattle.paper.specs.Table.{labels, next, tableGrounds}
@@ -15,7 +16,7 @@ use Rattle.paper.specs.Forest.{weight, singles, endNear, joined, d, long
 use Rattle.paper.specs.FallBack.{levels, towardStart}
 use Rattle.paper.specs.Defaults.{defaults}
 use Rattle.paper.specs.Operations.{Built, compacted, compactGrounds, compact}
-use Rattle.paper.specs.Cases.{built, room, same}
+use Rattle.paper.specs.Cases.{built, room}
 
 -- Twelve states and four classes: 'a' is class 1, 'b' class 2, 'c' class 3, every other byte 0; every third state has a label.
 abbrev twelve : List ℕ

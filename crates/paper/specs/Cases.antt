@@ -1,10 +1,9 @@
 -- The cases that the paper marks with a star, and those of the requests: two tables, each one statement.
-use mathlib.Core.Bool.{Bool, true, false, _&&_}
+use mathlib.Core.Bool.{Bool, true, _&&_}
 use mathlib.Core.List.{List, [], _∷_, _++_, map}
 use Prim.Native.Nat.{ℕ}
-use lib.Dec.{eqb}
 use lib.ListN.{length, replicate, take, drop}
-use Rattle.paper.specs.Below.{sum, list, or}
+use Rattle.paper.specs.Below.{sum, same, list, or}
 use Rattle.paper.specs.Words.{bytes16, all16, bytes32, checkWord}
 use Rattle.paper.specs.Refusals.{first}
 use Rattle.paper.specs.Labels.{two}
@@ -15,7 +14,9 @@ use Rattle.paper.specs.Image.{entries, depth, worst, imageView, firstLoa
 use Rattle.paper.specs.Results.{defaultNumber, imageOf, moved}
 use Rattle.paper.specs.Forest.{Trees, weight, singles, joined, root, lean, forest}
 use Rattle.paper.specs.FallBack.{level}
-use Rattle.paper.specs.Operations.{judgeTable, judgeImage, Built, compacted, compact, listed, write, expand, rewrite, forward, back, Scanned, scan, walk}
+use Rattle.paper.specs.Strings.{tabulated}
+use Rattle.paper.specs.Reduce.{reduced}
+use Rattle.paper.specs.Operations.{judgeTable, judgeImage, Built, compacted, compact, listed, write, expand, rewrite, strings, reduce, forward, back, Scanned, scan, walk}
 use Rattle.paper.specs.Programs.{boundsText, servedText}
 
 -- The classes of the bytes where 'a' is class x, 'b' class y and every other byte 0.
@@ -73,13 +74,6 @@ three3 = imageOf three (listed (all16 (65535 ∷ 0 ∷ 1 ∷ [])))
 -- T written with 0, 1 and 2 to 3.
 abbrev pub T3 : List ℕ
 T3 = imageOf T (listed (all16 (3 ∷ 3 ∷ 3 ∷ 65535 ∷ [])))
-
--- Two lists are the same.
-abbrev pub same : List ℕ → List ℕ → Bool
-same [] [] = true
-same [] (y ∷ ys) = false
-same (x ∷ xs) [] = false
-same (x ∷ xs) (y ∷ ys) = eqb x y && same xs ys
 
 -- A case: what is computed, and what the paper gives.
 abbrev pub Case : Type 0
@@ -144,6 +138,28 @@ T-two = labelled (0 ∷ 0 ∷ 2 ∷ 1 ∷ []) (7 ∷ 8 ∷ 9 ∷ [])
 -- Its image with D 2.
 abbrev pub T2-two : List ℕ
 T2-two = compacted T-two 0 2
+
+-- A string of a word list: its label, its length and its bytes.
+abbrev pub stringOf : ℕ → List ℕ → List ℕ
+stringOf l w = all16 (l ∷ length w ∷ []) ++ w
+
+-- The word list "he", "she", "his", "hers" with the labels 1 to 4.
+abbrev pub hers : List ℕ
+hers = bytes16 4 ++ stringOf 1 (104 ∷ 101 ∷ []) ++ stringOf 2 (115 ∷ 104 ∷ 101 ∷ []) ++ stringOf 3 (104 ∷ 105 ∷ 115 ∷ []) ++ stringOf 4 (104 ∷ 101 ∷ 114 ∷ 115 ∷ [])
+
+-- The payload "ushers".
+abbrev pub ushers : List ℕ
+ushers = 117 ∷ 115 ∷ 104 ∷ 101 ∷ 114 ∷ 115 ∷ []
+
+-- The reports of "he", "she" and "hers" in it.
+abbrev pub ushersTold : List ℕ
+ushersTold = bytes32 3 ++ bytes16 1 ++ bytes32 3 ++ bytes16 2 ++ bytes32 5 ++ bytes16 4
+
+-- A table of five states whose states 1 and 3, and 2 and 4, no payload tells apart, and whose state 0 the start state 2 does not reach.
+abbrev pub twice : List ℕ
+twice =
+    all16 (5 ∷ 3 ∷ 2 ∷ []) ++ classesOf 1 2 ++ all16 (0 ∷ 5 ∷ 0 ∷ 5 ∷ 0 ∷ [])
+    ++ all16 (0 ∷ 0 ∷ 0 ∷ []) ++ all16 (1 ∷ 3 ∷ 2 ∷ []) ++ all16 (2 ∷ 1 ∷ 4 ∷ []) ++ all16 (3 ∷ 1 ∷ 4 ∷ []) ++ all16 (4 ∷ 3 ∷ 2 ∷ [])
 
 -- The starred cases in the paper's order; 65535 is no default, and a room is 255 where it is not written.
 abbrev pub starred : List Case
@@ -211,4 +227,11 @@ requested =
     ∷ (rewrite three3 (room 321) .number ∷ [], 16 ∷ [])
     ∷ (rewrite T2 (room 324) .room, T2)
     ∷ (rewrite T2-two (room 330) .room, T2-two)
+    ∷ (length (tabulated hers) ∷ strings hers (room 412) .number ∷ strings hers (room 411) .number ∷ [], 412 ∷ 0 ∷ 16 ∷ [])
+    ∷ (scanned (walk (tabulated hers) 0 ushers (room 18)), 0 ∷ 6 ∷ 9 ∷ 3 ∷ 0 ∷ ushersTold)
+    ∷ (map (λ w. strings w [] .number) (take 29 hers ∷ (hers ++ (0 ∷ [])) ∷ (bytes16 2 ++ stringOf 5 (97 ∷ []) ++ stringOf 5 (98 ∷ [])) ∷ []), 26 ∷ 26 ∷ 27 ∷ [])
+    ∷ (reduced T, T)
+    ∷ (reduced eight, all16 (1 ∷ 3 ∷ 0 ∷ []) ++ classesOf 1 2 ++ replicate 8 0)
+    ∷ (reduced twice, all16 (2 ∷ 3 ∷ 1 ∷ []) ++ classesOf 1 2 ++ all16 (5 ∷ 0 ∷ 0 ∷ 0 ∷ 1 ∷ 1 ∷ 0 ∷ 1 ∷ []))
+    ∷ (reduce twice (room 278) .number ∷ reduce twice (room 277) .number ∷ reduce (take 5 twice) [] .number ∷ [], 0 ∷ 16 ∷ 1 ∷ [])
     ∷ []

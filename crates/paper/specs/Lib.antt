@@ -17,12 +17,16 @@ pub mod Scan
 pub mod Walk
 pub mod Reached
 pub mod Rewrite
+pub mod Strings
+pub mod Reduce
 pub mod Operations
 pub mod Text
 pub mod Programs
 pub mod Promises
 pub mod Sentences
 pub mod Follows
+pub mod Endings
+pub mod Told
 pub mod Altered
 pub mod Handed
 pub mod Cases

@@ -4,7 +4,7 @@ use mathlib.Core.Logic.{_⊎_}
 use mathlib.Core.List.{List, [], _∷_, _++_}
 use mathlib.Core.Option.{Option, none, some}
 use Prim.Native.Nat.{ℕ, suc, _+_, _-_, _*_, _≤_, _<_}
-use lib.ListN.{length, take}
+use lib.ListN.{length, getD, take}
 use Rattle.paper.specs.Below.{sum}
 use Rattle.paper.specs.Words.{words, checkWord}
 use Rattle.paper.specs.Labels.{Edition, one, two, labelCount, label}
@@ -15,6 +15,9 @@ use Rattle.paper.specs.Image as image
 use Rattle.paper.specs.Image.{imageLength, imageView}
 use Rattle.paper.specs.Results.{tableView, imageOf, moved, tableOf}
 use Rattle.paper.specs.Rewrite.{rewritten}
+use Rattle.paper.specs.Strings as list
+use Rattle.paper.specs.Strings.{rules, names, labelsEnding, tabulated}
+use Rattle.paper.specs.Reduce.{reduced}
 use Rattle.paper.specs.Operations.{listed, compacted}
 
 -- A sentence: the refusal's number, and when it is given.
@@ -180,6 +183,22 @@ backSentences b room =
 -- Rewrite: the image's, 16.
 unfoldable pub rewriteSentences : List ℕ → ℕ → List Sentence
 rewriteSentences b room = imageSentences b ++ ((16, room < length (rewritten b)) ∷ [])
+
+-- Strings: 26 (list shape or lengths), 27 (label 0 or used twice), 19 (more than 16 labels on a state), 28 (more than 512 states), 16.
+unfoldable pub stringsSentences : List ℕ → ℕ → List Sentence
+stringsSentences b room =
+    let count = list.count b in
+    let ws = names (rules b) in
+    (26, OutOf 1 64 count ⊎ (Some count (λ i. OutOf 1 32 (list.size b i)) ⊎ (¬ (list.stringAt b count ≡ length b))))
+    ∷ (27, Some count (λ i. (list.label b i ≡ 0) ⊎ Some i (λ j. list.label b j ≡ list.label b i)))
+    ∷ (19, Some (length ws) (λ s. 16 < length (labelsEnding (rules b) (getD ws s []))))
+    ∷ (28, 512 < length ws)
+    ∷ (16, room < length (tabulated b))
+    ∷ []
+
+-- Reduce: the table's, 16.
+unfoldable pub reduceSentences : List ℕ → ℕ → List Sentence
+reduceSentences t room = tableSentences t ++ ((16, room < length (reduced t)) ∷ [])
 
 -- A payload from a state, one of n: 14, 15.
 abbrev pub runSentences : ℕ → ℕ → List ℕ → List Sentence

@@ -4,6 +4,7 @@ use mathlib.Core.List.{List, [], _∷_, _++_, map}
 use Prim.Native.Nat.{ℕ, zero, suc, _-_, _%_}
 use lib.Dec.{eqb}
 use lib.ListN.{length, getD, take, drop, set, replicate}
+use Rattle.paper.specs.Below.{same}
 use Rattle.paper.specs.Words.{number16, number32, bytes16, all16, bytes32, _⊕_, checkWord}
 use Rattle.paper.specs.Labels.{labelCount, label, labelsFrom, labelsBehind}
 use Rattle.paper.specs.Table.{labels, next, tableGrounds}
@@ -16,7 +17,7 @@ use Rattle.paper.specs.FallBack.{levels, towardStart}
 use Rattle.paper.specs.Defaults.{defaults}
 use Rattle.paper.specs.Scan.{scanOf}
 use Rattle.paper.specs.Operations.{judgeTable, judgeImage, compacted, Built, compactGrounds, compact, writeGrounds, write, expandGrounds, expand, Scanned, scanGrounds, scan}
-use Rattle.paper.specs.Cases.{same, scanned}
+use Rattle.paper.specs.Cases.{scanned}
 
 -- What is lent: a thing as it is, or of so many bytes, with zeros behind it or cut, and with other bytes at some places.
 pub data Lent : Type 0 where
