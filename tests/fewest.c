@@ -57,6 +57,7 @@ static uint32_t written(void) {
     if (few) return sum;
     if (edition_in(image) == 2) old_loader(image, answer.length, 0, tables);
     if (transitions(image) != sum) fail("write's image stores another number", tables);
+    there_and_back(image, answer.length, tables);
     return sum;
 }
 
@@ -172,6 +173,7 @@ static void fewer_bytes(void) {
     for (uint32_t s = 0; s < 3; s++) set16(defaults, 2 * s, falls[s]);
     if (kamordast_write(table, 280, defaults, 6, image, sizeof image).refused != 25) fail("the list for the three states is 25", 0);
     if (reference_image(table, 280, defaults, 6, image, sizeof image).length != 314 || transitions(image) != 6 || number32(image, 8) != 4) fail("the image of the three states", 0);
+    there_and_back(image, 314, 0);
 }
 
 /* The example tables, as docs/OPERATORS.md has them: entries and defaults in the orders 0 to 2 with a bound of n - 1, and those of order 3. */

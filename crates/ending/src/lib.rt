@@ -26,11 +26,19 @@ pub fn put_trailer(n: usize, m: u32, held: usize, worst: u16, room: &mut [u8], a
     words::put16(room, at + 8, worst);
 }
 
+// The check word of the bytes before a place.
+pub fn check_before(b: &[u8], at: usize) -> u16
+    requires { ⌜ (at ≤ length (now b)) × (at % 2 ≡ 0) × (at < 2 ^ 32) ⌝ }
+    ensures { λ r. ⌜ r ≡ checkWord (words (take at (now (b .entry)))) ⌝ }
+{
+    words::check_word(&b[..at])
+}
+
 // Writes behind the bytes before it their check word.
 pub fn put_check(room: &mut [u8], at: usize)
     requires { ⌜ (at + 2 ≤ length (now room)) × (at % 2 ≡ 0) × (at < 2 ^ 32) ⌝ }
     ensures { λ _. ⌜ now (room .exit) ≡ placed (now (room .entry)) at (bytes16 (checkWord (words (take at (now (room .entry)))))) ⌝ }
 {
-    let check = words::check_word(&room[..at]);
+    let check = check_before(room, at);
     words::put16(room, at, check);
 }

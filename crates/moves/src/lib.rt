@@ -31,9 +31,12 @@ fn put_rest(image: &[u8], n: usize, m: u32, from: usize, held: usize, room: &mut
     let count = 4 * n + 4 * m as usize;
     let at = 268 + 2 * n + 2 * held;
     words::copy(image, from, count, room, at);
-    let worst = words::get16(image, image.len() - 4);
+    let last = image.len() - 2;
+    let worst = words::get16(image, last - 2);
     ending::put_trailer(n, m, held, worst, room, at + count);
-    ending::put_check(room, at + count + 10);
+    let end = at + count + 10;
+    let check = ending::check_before(room, end);
+    words::put16(room, end, check);
 }
 
 // Fills the first bytes of the room with an accepted image of edition 1, moved into edition 2.

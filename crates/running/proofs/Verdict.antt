@@ -57,6 +57,15 @@ module _ (gs : List Ground) (ok : numbered gs ≡ true) (n s : ℕ) (payload : L
   pub verdict-judged : first gs ≡ 0 → first (gs ++ runGrounds n s payload) ≡ later n s payload
   verdict-judged e = verdict-past ∙ rw e
 
+  -- What is answered by the judge where it refuses, and by 14 and 15 where it accepts, is the verdict.
+  pub ground-is : (judged ground : ℕ) → judged ≡ first gs → (¬ (judged ≡ 0) → ground ≡ judged) × (judged ≡ 0 → ground ≡ later n s payload)
+      → first (gs ++ runGrounds n s payload) ≡ ground
+  ground-is judged ground e (refuses, accepts) = verdict-past ∙ rw (← e) (go judged refuses accepts)
+    where
+      go : (v : ℕ) → (¬ (v ≡ 0) → ground ≡ v) → (v ≡ 0 → ground ≡ later n s payload) → past v (later n s payload) ≡ ground
+      go zero refuses accepts = sym (accepts refl)
+      go (suc v) refuses accepts = sym (refuses (λ z. absurd (omega (arith, z))))
+
   -- It is 0 only where the judge accepts, the state is below n and the payload is not too long.
   pub verdict-clear : first (gs ++ runGrounds n s payload) ≡ 0 → (first gs ≡ 0) × (s < n) × (length payload ≤ 65536)
   verdict-clear e = passed (first gs) (sym verdict-past ∙ e)
@@ -71,30 +80,17 @@ module _ (gs : List Ground) (ok : numbered gs ≡ true) (n s : ℕ) (payload : L
     outcome = scanning (first (gs ++ runGrounds n s payload)) r room
 
     -- A refusal answers its number and zeros, and leaves the room.
-    refused : (v number taken state reports hops : ℕ) → first (gs ++ runGrounds n s payload) ≡ v → ¬ (v ≡ 0) → Zeros v number taken state reports hops
+    pub refused : (v number taken state reports hops : ℕ) → first (gs ++ runGrounds n s payload) ≡ v → ¬ (v ≡ 0) → Zeros v number taken state reports hops
         → IsScanned outcome number taken state reports hops room
     refused v number taken state reports hops e z (p, q, a, b, c) = rw (p, q, a, b, c, e) (refusing v r room z)
 
-    -- The judge refuses.
-    pub judge-refuses : (v number taken state reports hops : ℕ) → v ≡ first gs → ¬ (v ≡ 0) → Zeros v number taken state reports hops → IsScanned outcome number taken state reports hops room
-    judge-refuses v number taken state reports hops e z = refused v number taken state reports hops (verdict-past ∙ rw (← e) (go v z)) z
-      where
-        go : (v : ℕ) → ¬ (v ≡ 0) → past v (later n s payload) ≡ v
-        go zero z = absurd (z refl)
-        go (suc v) z = refl
-
-    module _ (judged : first gs ≡ 0) where
-      -- 14 or 15 applies.
-      pub later-refuses : (v number taken state reports hops : ℕ) → v ≡ later n s payload → ¬ (v ≡ 0) → Zeros v number taken state reports hops → IsScanned outcome number taken state reports hops room
-      later-refuses v number taken state reports hops e = refused v number taken state reports hops (verdict-judged judged ∙ sym e)
-
-      -- No ground applies: the scan's four numbers are answered, and its reports left in the room.
-      pub outcome-done : later n s payload ≡ 0 → outcome ≡ scanning 0 r room
-      outcome-done none = ap (λ (v : ℕ). scanning v r room) (verdict-judged judged ∙ none)
+    -- No ground applies: the scan's four numbers are answered, and its reports left in the room.
+    pub outcome-done : first (gs ++ runGrounds n s payload) ≡ 0 → outcome ≡ scanning 0 r room
+    outcome-done none = ap (λ (v : ℕ). scanning v r room) none
 
     -- What is known where 0 is answered: the judge accepts, the state is below n, the payload is not too long, and the numbers and the room are the scan's.
     pub outcome-accepts : outcome .number ≡ 0 → (first gs ≡ 0) × (s < n) × (length payload ≤ 65536) × (outcome ≡ scanning 0 r room)
     outcome-accepts e =
         let none = sym (number-scanning (first (gs ++ runGrounds n s payload)) r room) ∙ e in
         let (i, j, k) = verdict-clear none in
-        (i, j, k, ap (λ (v : ℕ). scanning v r room) none)
+        (i, j, k, outcome-done none)

@@ -6,14 +6,21 @@ ghost use lib.ListN.{length};
 ghost use Rattle.paper.specs.Scan.{reportBytes};
 ghost use Rattle.paper.specs.Refusals.{first};
 ghost use Rattle.paper.specs.Operations.{runGrounds};
-ghost use Rattle.paper.specs.Labels.{two, editionOf};
+ghost use Rattle.paper.specs.Words.{number16};
+ghost use Rattle.paper.specs.Labels.{two, editionOf, statesOf};
 ghost use Rattle.labels.specs.Tags.{manyOf, numbersFrom, tagged};
 ghost use Rattle.words.specs.Placed.{placed};
 
-// Why a payload is not run from a state, one of n: 14 where it is none of them, 15 where the payload is over 65,536 bytes; 0 where it is run.
-pub fn ground_of(n: usize, state: u32, payload: &[u8]) -> u32
-    ensures { λ r. ⌜ r ≡ first (runGrounds n state (now (payload .entry))) ⌝ }
+// Why a payload is not run from a state through what the judge answered this for: its answer where that is not 0, 14 where the state is none of the n, 15 where the
+// payload is over 65,536 bytes; 0 where it is run.
+pub fn ground_of(judged: u32, b: &[u8], state: u32, payload: &[u8]) -> u32
+    requires { ⌜ (judged ≡ 0 → 2 ≤ length (now b)) ⌝ }
+    ensures { λ r. ⌜ (¬ (judged ≡ 0) → r ≡ judged) × (judged ≡ 0 → r ≡ first (runGrounds (statesOf (number16 (now (b .entry)) 0)) state (now (payload .entry)))) ⌝ }
 {
+    if judged != 0 {
+        return judged;
+    }
+    let n = labels::states_of(words::get16(b, 0));
     if n <= state as usize {
         return 14;
     }

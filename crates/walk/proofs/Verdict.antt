@@ -2,13 +2,14 @@
 use mathlib.Core.Path.{_≡_, refl}
 use mathlib.Core.Bool.{true}
 use mathlib.Core.List.{List}
-use Prim.Native.Nat.{ℕ, _≤_, _<_}
+use Prim.Native.Nat.{ℕ}
 use lib.ListN.{length}
+use Rattle.paper.specs.Refusals.{first}
 use Rattle.paper.specs.Table.{states, tableGrounds}
 use Rattle.paper.specs.Scan.{walkOf}
-use Rattle.paper.specs.Operations.{judgeTable, walkGrounds, scanning, walk}
+use Rattle.paper.specs.Operations.{walkGrounds, scanning, walk}
 use Rattle.paper.proofs.Refusals.{numbered}
-use Rattle.running.proofs.Verdict.{later-none, outcome-done}
+use Rattle.running.proofs.Verdict.{outcome-done}
 
 -- No ground of a table has the number 0.
 pub table-numbered : (t : List ℕ) → numbered (tableGrounds t) ≡ true
@@ -16,8 +17,7 @@ unfolding tableGrounds
 table-numbered t = refl
 
 -- Where no ground applies walk answers the walk's numbers and leaves its reports in the room.
-pub walk-done : (t : List ℕ) (s : ℕ) (payload room : List ℕ) → judgeTable t ≡ 0 → s < states t → length payload ≤ 65536
+pub walk-done : (t : List ℕ) (s : ℕ) (payload room : List ℕ) → first (walkGrounds t s payload) ≡ 0
     → walk t s payload room ≡ scanning 0 (walkOf t s payload (length room)) room
-unfolding walk walkGrounds judgeTable
-walk-done t s payload room e h l =
-    outcome-done (tableGrounds t) (table-numbered t) (states t) s payload (walkOf t s payload (length room)) room e (later-none (states t) s payload h l)
+unfolding walk walkGrounds
+walk-done t s payload room = outcome-done (tableGrounds t) (table-numbered t) (states t) s payload (walkOf t s payload (length room)) room

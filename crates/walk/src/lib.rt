@@ -62,16 +62,13 @@ fn walk_accepted(
 pub fn walk(table: &[u8], state: u32, payload: &[u8], room: &mut [u8]) -> answers::Scanned
     ensures { λ r. ⌜ Walks (now (table .entry)) state (now (payload .entry)) (now (room .entry)) (r .refused) (r .taken) (r .state) (r .reports) (r .hops) (now (room .exit)) ⌝ }
 {
-    let number = table::judge_table(table);
-    if number != 0 {
-        return answers::not_scanned(number);
+    let judged = table::judge_table(table);
+    let ground = running::ground_of(judged, table, state, payload);
+    if ground != 0 {
+        return answers::not_scanned(ground);
     }
     let word = words::get16(table, 0);
     let n = labels::states_of(word);
-    let later = running::ground_of(n, state, payload);
-    if later != 0 {
-        return answers::not_scanned(later);
-    }
     let k = words::get16(table, 2) as usize;
     walk_accepted(table, n, k, word, state as usize, payload, room)
 }
