@@ -1,7 +1,9 @@
-// Whether a pair can be added, and the best pair of one weight that can, in an order that goes by the distances of the moment.
+// Whether a pair can be added, the next pair of one weight in a row, and the best pair of one weight that can, in an order that goes by the distances of the moment.
 ghost use mathlib.Core.Path.{_≡_};
 ghost use Prim.Native.Nat.{_≤_, _<_};
+ghost use Rattle.weights.specs.Weighed.{weightIn};
 ghost use Rattle.best.specs.Taken.{isTaken};
+ghost use Rattle.weights.specs.Next.{Next};
 ghost use Rattle.best.specs.Keys.{keyOf, keyIn, fitsIn};
 ghost use Rattle.best.specs.Longs.{ByTree, LongestIn};
 ghost use Rattle.best.specs.Picked.{InRow, Picked};
@@ -18,6 +20,21 @@ pub fn takes(x: u8, w: u8, tu: u16, tv: u16, du: u16, dv: u16, bound: u16) -> bo
         return false;
     }
     du as u32 + dv as u32 + 1 <= bound as u32
+}
+
+// The first state from `from` on whose pair with u has weight w, n where there is none.
+pub fn next_of(weights: &[u8; 262144], n: usize, u: usize, from: usize, w: u8) -> usize
+    requires { ⌜ (n ≤ 512) × (u < 512) × (from ≤ n) ⌝ }
+    ensures { λ r. ⌜ Next n (weightIn (now (weights .entry)) u) from w r ⌝ }
+{
+    let mut v = from;
+    while v < n {
+        if weights[u * 512 + v] == w {
+            return v;
+        }
+        v += 1;
+    }
+    v
 }
 
 // A pair and its key; a key of 65536 says that there is none.
@@ -84,7 +101,7 @@ pub fn longest_paths(d: &[u16; 512], tree: &[u16; 512], n: usize) -> [u16; 512]
     long
 }
 
-// The best pair of weight w in row u that can be added.
+// The best pair of weight w in row u that can be added. A row whose own distance has reached the bound has none, and pairs of another weight are passed over.
 fn best_in_row(
     d: &[u16; 512],
     tree: &[u16; 512],
@@ -106,14 +123,23 @@ fn best_in_row(
     };
     let tu = tree[u];
     let du = d[u];
+    if bound <= du {
+        return best;
+    }
     let lu = long[u];
-    for v in u + 1..n {
-        let dv = d[v];
-        if takes(weights[u * 512 + v], w, tu, tree[v], du, dv, bound) {
-            let key = key_of(order, du, dv, lu, long[v]);
-            if key < best.key {
-                best = Pick { key, u, v };
+    let mut v = u + 1;
+    while v < n {
+        if weights[u * 512 + v] == w {
+            let dv = d[v];
+            if takes(w, w, tu, tree[v], du, dv, bound) {
+                let key = key_of(order, du, dv, lu, long[v]);
+                if key < best.key {
+                    best = Pick { key, u, v };
+                }
             }
+            v += 1;
+        } else {
+            v = next_of(weights, n, u, v + 1, w);
         }
     }
     best

@@ -34,7 +34,7 @@ fn image_into(
     if room.len() < whole as usize {
         return answers::not_built(16);
     }
-    let worst = tally::worst_of(t, n, k, def, order);
+    let worst = tally::hops::worst_of(t, n, k, def, order);
     parts::emit(t, n, k, held, def, counts, m, depth, worst, room);
     Built {
         refused: 0,

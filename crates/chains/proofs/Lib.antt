@@ -8,5 +8,7 @@ pub mod Behind
 pub mod Endless
 pub mod Done
 pub mod Depth
+pub mod Hops
+pub mod Far
 pub mod Agrees
 pub mod Sweeps

@@ -79,6 +79,7 @@ laid-order n def {order} {place} {filled} L few inside all =
     record {
       below = λ i h. L .below i (omega arith);
       stands = λ s h. let (w, q) = L .stands s h (all s h) in (getD place s 0, omega arith, q);
+      once = λ i j h l e. sym (L .says i (omega arith)) ∙ ap (λ (x : ℕ). getD place x 0) e ∙ L .says j (omega arith);
       after = λ i d h e.
           let w : getD place d 0 < i = L .after i d (omega arith) e in
           let hd : d < n = inside (getD order i 0) d (L .below i (omega arith)) e in

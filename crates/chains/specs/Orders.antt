@@ -37,5 +37,7 @@ pub record ParentFirst (n : ℕ) (def order : List ℕ) : Type 0 where
   pub below : (i : ℕ) → i < n → getD order i 0 < n
   -- Each state below n stands at some place below n.
   pub stands : (s : ℕ) → s < n → StandsBefore order n s
+  -- No state stands at two places.
+  pub once : (i j : ℕ) → i < n → j < n → getD order i 0 ≡ getD order j 0 → i ≡ j
   -- The default of the state at a place, if it has one, stands at some place before.
   pub after : (i d : ℕ) → i < n → defaultFrom (getD def (getD order i 0) 0) ≡ some d → StandsBefore order i d

@@ -2,9 +2,9 @@
 ghost use mathlib.Core.Path.{_≡_};
 ghost use mathlib.Core.Bool.{false};
 ghost use mathlib.Core.Option.{some};
-ghost use Prim.Native.Nat.{ℕ, _≤_, _<_, max};
+ghost use Prim.Native.Nat.{ℕ, _≤_, _<_};
 ghost use lib.ListN.{length, getD};
-ghost use Rattle.paper.specs.Below.{any, largest as largestOf};
+ghost use Rattle.paper.specs.Below.{any};
 ghost use Rattle.paper.specs.View.{endless, depthOf};
 ghost use Rattle.paper.specs.Image.{defaultFrom};
 ghost use Rattle.chains.specs.Orders.{defaultsView, InRange, ChainLength, ParentFirst};
@@ -17,19 +17,6 @@ fn wide(x: u16) -> usize
     ensures { λ r. ⌜ r ≡ x ⌝ }
 {
     x as usize
-}
-
-// The largest of the first n numbers, and of `least`.
-pub fn largest(list: &[u16; 512], n: usize, least: u16) -> u16
-    requires { ⌜ n ≤ 512 ⌝ }
-    ensures { λ r. ⌜ r ≡ max least (largestOf n (λ s. getD (now (list .entry)) s 0)) ⌝ }
-{
-    let mut most = least;
-    for s in 0..n {
-        let l = list[s];
-        most = words::larger(most, l);
-    }
-    most
 }
 
 // The state at a place of an order.
@@ -89,7 +76,7 @@ pub fn order_of(def: &[u16; 512], n: usize) -> Order
         };
     }
     let len = lengths(def, &order, n);
-    let depth = largest(&len, n, 0);
+    let depth = words::largest(&len, n, 0);
     Order {
         endless: false,
         depth,

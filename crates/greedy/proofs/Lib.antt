@@ -1,5 +1,4 @@
 pub mod Becomes
-pub mod Weights
 pub mod Pair
 pub mod Rows
 pub mod Level

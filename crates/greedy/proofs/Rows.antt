@@ -1,10 +1,10 @@
 -- The pairs of one weight taken row by row: what the arrays become.
-use mathlib.Core.Path.{_≡_, refl, _∙_}
+use mathlib.Core.Path.{_≡_, refl, sym, _∙_}
 use mathlib.Core.Bool.{Bool, true, false, cond}
 use mathlib.Core.List.{List}
 use Prim.Native.Nat.{ℕ, zero, suc, _+_, _≤_, _<_}
 use native.Mathlib.Numerals.{add-one}
-use native.Mathlib.Decide.{ℕ-discrete}
+use native.Mathlib.Decide.{ℕ-discrete, decLt}
 use native.Mathlib.Omega.{arith}
 use lib.Dec.{ltb}
 use lib.ListN.{getD}
@@ -15,9 +15,10 @@ use Rattle.paper.proofs.Levels.{level}
 use Rattle.trees.proofs.Best.{levelOf}
 use Rattle.joining.specs.Held.{Joined, Whole}
 use Rattle.best.specs.Taken.{isTaken}
-use Rattle.greedy.specs.Good.{Becomes}
+use Rattle.best.proofs.Taken.{taken-full}
+use Rattle.greedy.specs.Good.{Good, Becomes}
 use Rattle.greedy.proofs.Becomes.{becomes-same, becomes-then}
-use Rattle.greedy.proofs.Weights.{Passed}
+use Rattle.weights.proofs.Next.{Passed}
 use Rattle.greedy.proofs.Pair.{pair-dropped, pair-added}
 
 -- A row begins after its first state.
@@ -46,6 +47,19 @@ module _ (n D : ℕ) (weight : ℕ → ℕ → ℕ) (w : ℕ) (far parent tree :
   -- With no pair of a row taken they are too.
   pub row-starts : (u : ℕ) → Becomes n D (λ F. row n D weight w u F (u + 1)) far parent tree far parent tree
   row-starts u = record { whole = whole; good = λ F G. rw (row-skips n D weight w u F (u + 1) (omega arith)) G }
+
+  -- The row of a state whose distance has reached the bound changes nothing.
+  pub row-full : (u : ℕ) → D ≤ getD far u 0 → Becomes n D (λ F. row n D weight w u F n) far parent tree far parent tree
+  row-full u full = record { whole = whole; good = λ F G. go F G n (omega arith) }
+    where
+      go : (F : Trees) → Good n D F far parent tree → (j : ℕ) → j ≤ n → Good n D (row n D weight w u F j) far parent tree
+      go F G zero l = G
+      go F G (suc j) l =
+          elim (decLt u j) [
+            | yes h ↦ pair-dropped n D u j h (omega arith) (row n D weight w u F j) far parent tree (go F G j (omega arith)) weight w
+                (sym (taken-full (weight u j) w (getD tree u 0) (getD tree j 0) (getD far u 0) (getD far j 0) D full))
+            | no h ↦ rw (le-ltb u j (omega arith)) (go F G j (omega arith))
+          ]
 
 module _ (n D : ℕ) (weight : ℕ → ℕ → ℕ) (w u : ℕ) (far₀ parent₀ tree₀ far parent tree : List ℕ) where
   module _ (v : ℕ) (uv : u < v) (vb : v < n) (B : Becomes n D (λ F. row n D weight w u F v) far₀ parent₀ tree₀ far parent tree)

@@ -1,2 +1,1 @@
 pub mod Good
-pub mod Weights

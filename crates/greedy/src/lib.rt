@@ -6,23 +6,7 @@ ghost use Rattle.joining.specs.Rooted.{Low};
 ghost use Rattle.weights.specs.Weighed.{weightIn};
 ghost use Rattle.weights.specs.Named.{Named};
 ghost use Rattle.greedy.specs.Good.{Becomes};
-ghost use Rattle.greedy.specs.Weights.{Next};
 use joining::Forest;
-
-// The first state from `from` on whose pair with u has weight w, n where there is none.
-fn next_of(weights: &[u8; 262144], n: usize, u: usize, from: usize, w: u8) -> usize
-    requires { ⌜ (n ≤ 512) × (u < 512) × (from ≤ n) ⌝ }
-    ensures { λ r. ⌜ Next n (weightIn (now (weights .entry)) u) from w r ⌝ }
-{
-    let mut v = from;
-    while v < n {
-        if weights[u * 512 + v] == w {
-            return v;
-        }
-        v += 1;
-    }
-    v
-}
 
 // All pairs of weight w in order 0: by first state, then by second.
 fn take_level(f0: Forest, weights: &[u8; 262144], n: usize, bound: u16, w: u8) -> Forest
@@ -31,12 +15,14 @@ fn take_level(f0: Forest, weights: &[u8; 262144], n: usize, bound: u16, w: u8) -
 {
     let mut f = f0;
     for u in 0..n {
-        let mut v = next_of(weights, n, u, u + 1, w);
-        while v < n {
-            if best::takes(w, w, f.tree[u], f.tree[v], f.d[u], f.d[v], bound) {
-                f = joining::join(f, n, u, v);
+        if f.d[u] < bound {
+            let mut v = best::next_of(weights, n, u, u + 1, w);
+            while v < n {
+                if best::takes(w, w, f.tree[u], f.tree[v], f.d[u], f.d[v], bound) {
+                    f = joining::join(f, n, u, v);
+                }
+                v = best::next_of(weights, n, u, v + 1, w);
             }
-            v = next_of(weights, n, u, v + 1, w);
         }
     }
     f

@@ -30,6 +30,12 @@ pub record Under (row : List ℕ) (count c j : ℕ) : Type 0 where
   pub within : j ≤ count
   pub lower : (i : ℕ) → i < j → number16 row (4 * i) < c
 
+-- The entries of a row before a place, in bytes, have classes below c.
+pub record BelowAt (row : List ℕ) (c at : ℕ) : Type 0 where
+  pub entry : ℕ
+  pub place : at ≡ 4 * entry
+  pub under : Under row (length row / 4) c entry
+
 -- The entries before j have classes below c, and those eight or more places behind it have not.
 pub record Near (row : List ℕ) (count c j : ℕ) : Type 0 where
   pub before : Under row count c j

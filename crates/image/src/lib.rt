@@ -1,11 +1,11 @@
 // An image as its parts, found from its back: records, a state's entries, one step of look-up, and the look-up along the defaults.
 ghost use mathlib.Core.Path.{_≡_};
-ghost use Prim.Native.Nat.{_+_, _*_, _≤_, _<_};
+ghost use Prim.Native.Nat.{_+_, _*_, _/_, _≤_, _<_};
 ghost use lib.ListN.{length};
 ghost use Rattle.paper.specs.View.{look};
 ghost use Rattle.paper.specs.Image.{states, classes, entries, recordsAt, entriesPart, imageView};
 ghost use Rattle.image.specs.Forms.{recordAt, numberOf, stepOf, storedIn};
-ghost use Rattle.image.specs.Laid.{Laid, Begins, Rising, Near, Row, Ready};
+ghost use Rattle.image.specs.Laid.{Laid, Begins, Rising, Near, BelowAt, Row, Ready};
 
 // Where a state falls: it is a root, or it falls to a state.
 pub enum Fallback {
@@ -109,21 +109,32 @@ fn near(row: &[u8], count: usize, class: u16) -> usize
     low
 }
 
+// The place where the search of a row begins, in bytes: a long row is halved to near the class first.
+fn begin(row: &[u8], class: u16) -> usize
+    requires { ⌜ Rising (now row) (length (now row) / 4) ⌝ }
+    ensures { λ r. ⌜ BelowAt (now (row .entry)) class r ⌝ }
+{
+    if row.len() <= 32 {
+        return 0;
+    }
+    4 * near(row, row.len() / 4, class)
+}
+
 // One step over a row whose classes rise: it ends at the first that is not below the class.
-fn search(row: &[u8], count: usize, class: u16) -> Step
-    requires { ⌜ Rising (now row) count ⌝ }
+fn search(row: &[u8], class: u16) -> Step
+    requires { ⌜ Rising (now row) (length (now row) / 4) ⌝ }
     ensures { λ r. ⌜ r ≡ stepOf (storedIn (now (row .entry)) class) ⌝ }
 {
-    let mut j = near(row, count, class);
-    while j < count {
-        let c = words::get16(row, 4 * j);
+    let mut at = begin(row, class);
+    while at < row.len() {
+        let c = words::get16(row, at);
         if class <= c {
             if class == c {
-                return Step::Stored(words::get16(row, 4 * j + 2));
+                return Step::Stored(words::get16(row, at + 2));
             }
             return Step::Nothing;
         }
-        j += 1;
+        at += 4;
     }
     Step::Nothing
 }
@@ -133,11 +144,10 @@ pub fn stored_in(row: &[u8], k: usize, class: u16) -> Step
     requires { ⌜ Row (now row) k × (k ≤ 256) × (class < k) ⌝ }
     ensures { λ r. ⌜ r ≡ stepOf (storedIn (now (row .entry)) class) ⌝ }
 {
-    let count = row.len() / 4;
-    if count == k {
+    if row.len() == 4 * k {
         return Step::Stored(words::get16(row, 4 * (class as usize) + 2));
     }
-    search(row, count, class)
+    search(row, class)
 }
 
 // What a look-up finds: the next state, the hops to the state that stores it, and that state, whose entry served.

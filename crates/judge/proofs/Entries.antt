@@ -1,16 +1,14 @@
 -- All entries of an image, one after the other, and by state.
 use mathlib.Core.Path.{_≡_, refl, sym, ap, _∙_}
-use mathlib.Core.Bool.{Bool, true, false}
+use mathlib.Core.Bool.{Bool}
 use mathlib.Core.List.{List}
-use Prim.Native.Nat.{ℕ, zero, suc, _+_, _-_, _*_, _≤_, _<_}
-use native.Mathlib.Omega.{arith}
+use Prim.Native.Nat.{ℕ, zero, suc, _+_, _*_, _<_}
 use lib.Dec.{leb}
-use lib.ListN.{length}
-use borrow.Author.Tests.{le-leb, lt-leb}
-use Rattle.paper.specs.Below.{any, sum}
+use Rattle.paper.specs.Below.{any, sum, largest}
 use Rattle.paper.specs.Words.{number16}
 use Rattle.paper.specs.View.{anyEntry}
 use Rattle.paper.specs.Image.{states, entries, entriesAt, count, entryAt, imageView}
+use Rattle.paper.proofs.Below.{largest-any}
 use Rattle.table.proofs.Rows.{any-behind}
 use Rattle.image.specs.Laid.{Laid}
 
@@ -28,14 +26,10 @@ pub next-same : (b : List ℕ) → Laid b → any (entries b) (nextHigh b) ≡ a
 unfolding entryAt
 next-same b L = ap (λ (m : ℕ). any m (nextHigh b)) (sym (L .counted)) ∙ any-parts (states b) (count b) (nextHigh b)
 
-module _ (b : List ℕ) (n m : ℕ) (en : n ≡ states b) (em : m ≡ entries b) (j x : ℕ) (read : x ≡ number16 b (length b - (4 * m + 12) + 4 * j + 2)) where
-  next-is : x ≡ number16 b (entriesAt b + 4 * j + 2)
-  next-is = read ∙ rw em
+-- The next state of an entry, the entries counted from the image's first.
+abbrev pub nextOf : List ℕ → ℕ → ℕ
+nextOf b j = number16 b (entriesAt b + 4 * j + 2)
 
-  -- A next state that was read, not below n.
-  pub next-out : n ≤ x → nextHigh b j ≡ true
-  next-out h = le-leb (states b) (number16 b (entriesAt b + 4 * j + 2)) (omega (arith, next-is))
-
-  -- One below n.
-  pub next-in : x < n → nextHigh b j ≡ false
-  next-in h = lt-leb (states b) (number16 b (entriesAt b + 4 * j + 2)) (omega (arith, next-is))
+-- That of some entry is not below n just where the largest is not.
+pub next-largest : (b : List ℕ) → Laid b → 0 < states b → leb (states b) (largest (entries b) (nextOf b)) ≡ anyEntry (imageView b) (λ s j. leb (states b) (imageView b .entryNext s j))
+next-largest b L h = largest-any (states b) h (entries b) (nextOf b) ∙ next-same b L

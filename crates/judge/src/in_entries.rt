@@ -54,18 +54,17 @@ pub fn entry_classes_bad(b: &[u8], begins: &[u32; 513], n: usize, k: usize) -> b
     false
 }
 
-// Ground 10: some entry's next state is not below n.
+// Ground 10: some entry's next state is not below n. It is so where the largest is not.
 pub fn next_bad(b: &[u8], n: usize, m: usize) -> bool
-    requires { ⌜ Laid (now b) × (n ≡ states (now b)) × (m ≡ entries (now b)) ⌝ }
+    requires { ⌜ Laid (now b) × (n ≡ states (now b)) × (m ≡ entries (now b)) × (0 < n) ⌝ }
     ensures { λ r. ⌜ r ≡ anyEntry (imageView (now (b .entry))) (λ s j. leb (states (now (b .entry))) (imageView (now (b .entry)) .entryNext s j)) ⌝ }
 {
     let from = b.len() - (4 * m + 12);
+    let mut most = 0;
     let mut j = 0;
     while j < m {
-        if n <= words::get16(b, from + 4 * j + 2) as usize {
-            return true;
-        }
+        most = words::larger(words::get16(b, from + 4 * j + 2), most);
         j += 1;
     }
-    false
+    n <= most as usize
 }

@@ -16,11 +16,11 @@ use Rattle.paper.specs.View.{endless}
 use Rattle.paper.specs.Image.{states, classes, default, defaultFrom, count, imageView}
 use Rattle.paper.specs.Results.{tableView, tableOf}
 use Rattle.paper.specs.Rewrite.{notWorth, kept, rewritten}
-use Rattle.paper.proofs.Below.{any-none}
+use Rattle.paper.proofs.Below.{any-none, any-at, any-same}
 use Rattle.paper.proofs.Counts.{count-all}
 use Rattle.paper.proofs.Worth.{kept-worth, kept-dropped, kept-either}
 use Rattle.facts.proofs.ImageFacts.{AcceptedImage}
-use Rattle.trips.proofs.Rewritten.{rewritten-writable}
+use Rattle.trips.proofs.Rewritten.{rewritten-writable, rewritten-same}
 use Rattle.chains.specs.Orders.{defaultsView, InRange}
 use Rattle.chains.specs.Sweeps.{Falls}
 use Rattle.chains.proofs.Defaults.{from-none, from-some}
@@ -52,6 +52,15 @@ module _ (b : List ℕ) (B : Bytes b) (A : AcceptedImage b) (n k : ℕ) (N : n �
       go : (x : Bool) → sharesFew k (count b s) (default b s) ≡ x → defaultFrom (cond x 65535 (getD def s 0)) ≡ kept t s (default b s)
       go true e = from-none 65535 refl ∙ sym (kept-dropped t s (default b s) (weighed s h ∙ e))
       go false e = sym (F .falls s h) ∙ sym (kept-worth t s (default b s) (weighed s h ∙ e))
+
+  -- Whether some default is not worth its hops, by the counts.
+  pub weak-by-counts : (counts def : List ℕ) → RecordCounts b n counts → Falls (imageView b) n def
+      → any n (λ s. sharesFew k (getD counts s 0) (defaultFrom (getD def s 0))) ≡ any n (λ s. notWorth t s (default b s))
+  weak-by-counts counts def C F = any-same n _ _ (λ s h. rw (C s h, ← F .falls s h) (sym (weighed s h)))
+
+  -- Where none is so, the image is its own rewriting.
+  pub none-weak : any n (λ s. notWorth t s (default b s)) ≡ false → rewritten b ≡ b
+  none-weak e = rewritten-same b B (judged b B A) (λ s h. any-at n s (λ s. notWorth t s (default b s)) e (omega (arith, N)))
 
   module _ (stay : List ℕ) (S : Stays b n stay) where
     -- A default that stays is the image's.

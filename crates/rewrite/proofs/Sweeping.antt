@@ -13,7 +13,7 @@ use Rattle.paper.specs.Results.{tableOf}
 use Rattle.paper.proofs.Below.{largest-same}
 use Rattle.chains.specs.Sweeps.{Falls, Stores}
 use Rattle.sweep.specs.Cursors.{Cursors}
-use Rattle.sweep.proofs.Cursors.{cursor-start}
+use Rattle.abreast.proofs.Cursors.{cursor-start}
 use Rattle.sweep.proofs.Worst.{farthest, worst-classes}
 use Rattle.tally.specs.Owned.{listView}
 use Rattle.rewrite.specs.Staying.{Setting, Hopped}

@@ -1,5 +1,5 @@
 -- What rewrite answers: refused on the image's ground, else what becomes of the rewritten image and the room.
-use mathlib.Core.Path.{_≡_, refl, sym, _∙_}
+use mathlib.Core.Path.{_≡_, refl, sym, subst, _∙_}
 use mathlib.Core.List.{List, [], _∷_}
 use Prim.Native.Nat.{ℕ, zero, suc}
 use lib.Dec.{ltb}
@@ -39,3 +39,7 @@ unfolding rewrite rewriteGrounds
 rewrite-fills b room after number l A F =
     fills-same (rewritten b) (rewritten b) room after number l (first (rewriteGrounds b (length room))) F refl
     (record { decided = first-clear (imageGrounds b) (roomGround b (length room)) (image-clear b A) })
+
+-- An image that is its own rewriting is copied.
+pub rewrite-copies : (b room after : List ℕ) (number l : ℕ) → AcceptedImage b → rewritten b ≡ b → Fills b room number l after → Rewrites b room number l after
+rewrite-copies b room after number l A same F = rewrite-fills b room after number l A (subst (λ (r : List ℕ). Fills r room number l after) (sym same) F)

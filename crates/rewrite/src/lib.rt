@@ -22,6 +22,8 @@ ghost use Rattle.build.specs.Measured.{listImage, Measured, Fills};
 ghost use Rattle.rewrite.specs.Staying.{stayNumber, StayNumbers, countAfter, CountsAfter, RecordCounts, hopAt, Hopped, rootEntry, Setting};
 use answers::Built;
 
+mod whole;
+
 // The count of each state.
 fn counts_of(image: &[u8], n: usize, m: usize) -> [u16; 512]
     requires { ⌜ Passed (now image) n (classes (now image)) m ⌝ }
@@ -159,7 +161,7 @@ fn worst_of(
     for c in 0..k {
         sweep::take_class(image, n, c as u16, begins, &mut cursor, &mut own);
         take_hops(stay, order, n, &own, &mut hop);
-        worst = chains::largest(&hop, n, worst);
+        worst = words::largest(&hop, n, worst);
     }
     worst
 }
@@ -336,5 +338,8 @@ pub fn rewrite(image: &[u8], room: &mut [u8]) -> Built
     let n = labels::states_of(words::get16(image, 0));
     let k = words::get16(image, 2) as usize;
     let m = words::get32(image, 8) as usize;
-    rewrite_accepted(image, n, k, m, room)
+    if whole::some_not_worth(image, n, k, m) {
+        return rewrite_accepted(image, n, k, m, room);
+    }
+    whole::copied(image, room)
 }

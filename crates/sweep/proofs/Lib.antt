@@ -1,9 +1,7 @@
-pub mod Cursors
 pub mod Places
 pub mod Taken
 pub mod Defaults
-pub mod Repeats
-pub mod Needless
 pub mod Worst
+pub mod Far
 pub mod Sweeping
 pub mod Verdict

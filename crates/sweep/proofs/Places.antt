@@ -14,8 +14,9 @@ use Rattle.image.specs.Laid.{Laid, Begins}
 use Rattle.image.proofs.Begins.{next-begin, begin-in}
 use Rattle.chains.proofs.Defaults.{from-none, from-some}
 use Rattle.image.specs.Passed.{Passed}
-use Rattle.sweep.specs.Cursors.{Cursor, StandsAt, ownAt, behind}
-use Rattle.sweep.proofs.Cursors.{stored-entry, cursor-taken, cursor-nothing, cursor-stays}
+use Rattle.abreast.specs.Keeps.{Cursor}
+use Rattle.abreast.proofs.Cursors.{stored-entry, cursor-taken, cursor-nothing, cursor-stays}
+use Rattle.sweep.specs.Cursors.{StandsAt, ownAt, behind}
 
 -- An entry of the class before the end.
 pub own-found : (b : List ℕ) (at end c : ℕ) → at < end → number16 b at ≡ c → number16 b (at + 2) ≡ ownAt b at end c

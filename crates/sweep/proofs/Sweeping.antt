@@ -1,108 +1,100 @@
--- The sweep over the classes: none of those passed is needless anywhere, and the largest hops of them are known.
-use mathlib.Core.Path.{_≡_, refl, sym, _∙_}
-use mathlib.Core.Bool.{true, false}
-use mathlib.Core.Option.{none, some}
+-- The sweep over the classes, two at a time: none of those passed is needless anywhere, and the largest hops of them are known.
+use mathlib.Core.Path.{_≡_, sym, subst, _∙_}
+use mathlib.Core.Bool.{false}
 use mathlib.Core.List.{List}
-use Prim.Native.Nat.{ℕ, _+_, _≤_, _<_, max}
+use Prim.Native.Nat.{ℕ, _+_, _*_, _≤_, _<_, max}
+use native.Mathlib.Decide.{decLt}
 use native.Mathlib.Omega.{arith}
 use lib.ListN.{length, getD}
 use Rattle.paper.specs.Below.{any, largest}
-use Rattle.paper.specs.View.{stored, worstOf, anyEntry, sameAsDefault}
-use Rattle.paper.specs.Image.{classOf, default, count, imageView}
-use Rattle.paper.proofs.Below.{any-found, any-more}
-use Rattle.paper.proofs.Rising.{Rises, full-row}
-use Rattle.image.specs.Laid.{Begins}
-use Rattle.chains.specs.Orders.{InRange}
-use Rattle.chains.specs.Sweeps.{Falls, Stores, RootsStore, Resolves}
-use Rattle.chains.proofs.Agrees.{inside-range, roots-store}
+use Rattle.paper.specs.View.{View, worstOf, anyEntry, sameAsDefault}
+use Rattle.paper.specs.Image.{classOf, imageView}
+use Rattle.paper.proofs.Below.{any-none}
+use Rattle.facts.proofs.TableFacts.{Classed}
 use Rattle.image.specs.Passed.{Passed}
-use Rattle.sweep.specs.Cursors.{Cursors}
-use Rattle.sweep.specs.Needless.{needlessFor, repeats}
-use Rattle.sweep.proofs.Cursors.{stored-entry, cursor-start}
-use Rattle.sweep.proofs.Repeats.{repeats-class}
-use Rattle.sweep.proofs.Needless.{needless-classes}
-use Rattle.sweep.proofs.Worst.{farthest, worst-classes, farthest-more}
+use Rattle.chains.specs.Orders.{InRange, ParentFirst}
+use Rattle.chains.specs.Sweeps.{Falls}
+use Rattle.chains.proofs.Agrees.{inside-range}
+use Rattle.chains.proofs.Far.{Far, far-none, far-worst}
+use Rattle.abreast.specs.Turned.{Long}
+use Rattle.abreast.specs.Keeps.{Fits, Ordered, StandsIn, Bottom, Across}
+use Rattle.sweep.proofs.Far.{far-two}
 
--- What holds before class c.
-pub record Sweeping (b : List ℕ) (n k c : ℕ) (cursor own to hop : List ℕ) (worst : ℕ) : Type 0 where
-  pub within : c ≤ k
-  pub cursor-long : length cursor ≡ 513
-  pub own-long : length own ≡ 512
-  pub to-long : length to ≡ 512
-  pub hop-long : length hop ≡ 512
-  pub cursors : Cursors b c n cursor
-  pub needed : any c (λ c. any n (needlessFor (imageView b) c)) ≡ false
-  pub far : worst ≡ largest c (farthest (imageView b) n)
+-- What holds before the two classes from `first` on.
+pub record Sweeping (b : List ℕ) (n first : ℕ) (place left wait to hop : List ℕ) (most : ℕ) : Type 0 where
+  pub within : first < imageView b .classes + 2
+  pub long : Long place left wait to hop
+  pub bottom : Bottom to hop
+  pub stands : (s : ℕ) → s < n → StandsIn (imageView b) b first place left wait s
+  pub needed : (s j : ℕ) → s < n → j < imageView b .count s → imageView b .entryClass s j < first → sameAsDefault (imageView b) s j ≡ false
+  pub far : Far (imageView b) n (imageView b .classes) 1024 first most
+  pub small : most < 65536
 
 module _ {b : List ℕ} {n k m : ℕ} (P : Passed b n k m) where
   -- The view has n states.
   counted : imageView b .states ≡ n
   counted = sym (P .states-are)
 
-  -- A state without a default stores every class.
-  root-stores : (c : ℕ) → c < k → (s : ℕ) → s < n → default b s ≡ none → (t : ℕ) × (stored (imageView b) s c ≡ some t)
-  root-stores c hc s hs e =
-      let all : count b s ≡ k = P .full s hs e in
-      let up : Rises (imageView b .entryClass s) (count b s) = λ j h. P .rises s j hs h in
-      let l : c < count b s = omega arith in
-      (imageView b .entryNext s c, stored-entry (imageView b) s up c c l (full-row (imageView b .entryClass s) (count b s) up k (λ j h. P .class-below s j hs h) all c l))
-
-  -- Ground 12 class by class is ground 12.
-  needless-all : any k (λ c. any n (needlessFor (imageView b) c)) ≡ anyEntry (imageView b) (sameAsDefault (imageView b))
-  needless-all = needless-classes (imageView b) n k counted (λ s hs j h. P .rises s j hs h) (P .class-below)
-
-  -- Before class 0 the cursors stand where the entries begin.
-  pub sweeping-start : (begins own to hop : List ℕ) → Begins b begins → length begins ≡ 513 → length own ≡ 512 → length to ≡ 512 → length hop ≡ 512
-      → Sweeping b n k 0 begins own to hop 0
-  sweeping-start begins own to hop B lb lo lt lh =
+  -- Its rows are as the sweep asks.
+  pub fits : Fits (imageView b) n
+  fits =
       record {
-        within = omega arith;
-        cursor-long = lb;
-        own-long = lo;
-        to-long = lt;
-        hop-long = lh;
-        cursors = λ s h. (0, B s (omega (arith, P .states-are)), cursor-start (imageView b) s);
-        needed = refl;
-        far = refl;
+        counted = counted;
+        few-states = P .few-states;
+        few-classes = omega (arith, P .classes-are, P .few-classes);
+        rises = λ s hs j h. P .rises s j hs h;
+        class-below = λ s j hs h. omega (arith, P .class-below s j hs h, P .classes-are);
+        next-below = P .next-below;
+        full = λ s hs e. P .full s hs e ∙ P .classes-are;
       }
 
+  -- The defaults that are kept are in range.
+  pub defaults-range : {def : List ℕ} → Falls (imageView b) n def → InRange n def
+  defaults-range F = inside-range F (P .inside)
+
+  -- An order in which each state comes after its default in the list is one for the view.
+  pub view-ordered : {def order : List ℕ} → Falls (imageView b) n def → ParentFirst n def order → Ordered (imageView b) n order
+  view-ordered F O =
+      record { below = O .below; stands = O .stands; once = O .once; after = λ i d h e. O .after i d h (sym (F .falls _ (O .below i h)) ∙ e) }
+
+  -- Before the first class all entries wait.
+  pub sweeping-start : {place left wait to hop : List ℕ} → Long place left wait to hop → Bottom to hop → ((s : ℕ) → s < n → StandsIn (imageView b) b 0 place left wait s)
+      → Sweeping b n 0 place left wait to hop 1024
+  sweeping-start L B S =
+      record {
+        within = omega arith;
+        long = L;
+        bottom = B;
+        stands = S;
+        needed = λ s j hs h l. absurd (omega arith);
+        far = far-none;
+        small = omega arith;
+      }
+
+  -- Two classes more.
+  pub sweeping-more : {first most : ℕ} {place left wait to hop place′ left′ wait′ to′ hop′ : List ℕ} → Sweeping b n first place left wait to hop most → first < k
+      → Across (imageView b) b n first place′ left′ wait′ to′ hop′ → (more : ℕ) → more ≡ max most (largest (2 * n) (λ i. getD hop′ i 0)) → more < 65536
+      → Sweeping b n (first + 2) place′ left′ wait′ to′ hop′ more
+  sweeping-more {first} {to′} {hop′} W l A more e small =
+      record {
+        within = omega (arith, P .classes-are);
+        long = A .long;
+        bottom = A .bottom;
+        stands = A .stands;
+        needed = λ s j hs h l. go s j hs h l (decLt (imageView b .entryClass s j) first);
+        far = far-two counted to′ hop′ (P .few-states) (W .far) (A .rows) more e;
+        small = small;
+      }
+    where
+      go : (s j : ℕ) → s < n → j < imageView b .count s → imageView b .entryClass s j < first + 2 → Dec (imageView b .entryClass s j < first) → sameAsDefault (imageView b) s j ≡ false
+      go s j hs h l (yes u) = W .needed s j hs h u
+      go s j hs h l (no u) = A .needed s hs j h (omega arith) l
+
   -- After the last class none is needless anywhere, and the worst is known.
-  pub sweeping-done : {c : ℕ} {cursor own to hop : List ℕ} {worst : ℕ} → Sweeping b n k c cursor own to hop worst → k ≤ c
-      → (false ≡ anyEntry (imageView b) (sameAsDefault (imageView b))) × (worst ≡ worstOf (imageView b) (classOf b))
-  sweeping-done {c} S h =
-      let e : c ≡ k = omega (arith, S .within) in (
-        sym (rw e at (S .needed)) ∙ needless-all,
-        (rw e at (S .far)) ∙ worst-classes (imageView b) n k (classOf b) counted (P .all-classed),
-      )
-
-  module _ {def : List ℕ} (F : Falls (imageView b) n def) where
-    -- The defaults that are kept are in range.
-    pub defaults-range : InRange n def
-    defaults-range = inside-range F (P .inside)
-
-    module _ (c : ℕ) (hc : c < k) (own : List ℕ) (S : Stores (imageView b) c n own) where
-      -- Each state without a default stores the class.
-      pub roots-own : RootsStore n def own
-      roots-own = roots-store F c own S (root-stores c hc)
-
-      module _ {to hop : List ℕ} (R : Resolves n def own to hop) where
-        -- Where a state of the class repeats its default's chain, some entry is needless.
-        pub sweeping-found : any n (repeats def own to) ≡ true → true ≡ anyEntry (imageView b) (sameAsDefault (imageView b))
-        sweeping-found e =
-            sym (any-found k c (λ c. any n (needlessFor (imageView b) c)) hc (sym (repeats-class F defaults-range c S R) ∙ e)) ∙ needless-all
-
-        -- Where none does, the sweep goes on behind the class.
-        pub sweeping-more : {cursor own₀ to₀ hop₀ : List ℕ} {worst : ℕ} → Sweeping b n k c cursor own₀ to₀ hop₀ worst
-            → (next : List ℕ) → length next ≡ 513 → length own ≡ 512 → Cursors b (c + 1) n next
-            → any n (repeats def own to) ≡ false → (more : ℕ) → more ≡ max worst (largest n (λ s. getD hop s 0)) → Sweeping b n k (c + 1) next own to hop more
-        sweeping-more {worst} W next ln lo C e more q =
-            record {
-              within = omega arith;
-              cursor-long = ln;
-              own-long = lo;
-              to-long = R .to-long;
-              hop-long = R .hop-long;
-              cursors = C;
-              needed = any-more c (λ c. any n (needlessFor (imageView b) c)) (W .needed) (sym (repeats-class F defaults-range c S R) ∙ e);
-              far = farthest-more F c S R worst more (W .far) q;
-            }
+  pub sweeping-done : {first most : ℕ} {place left wait to hop : List ℕ} → Sweeping b n first place left wait to hop most → k ≤ first
+      → (false ≡ anyEntry (imageView b) (sameAsDefault (imageView b))) × (most ≡ 1024 + worstOf (imageView b) (classOf b))
+  sweeping-done {first} W h = (
+    sym (any-none (imageView b .states) (λ s. any (imageView b .count s) (sameAsDefault (imageView b) s)) (λ s hs.
+        any-none (imageView b .count s) (sameAsDefault (imageView b) s) (λ j hj. W .needed s j (omega (arith, counted)) hj (omega (arith, P .class-below s j (omega (arith, counted)) hj))))),
+    far-worst counted (W .far) (omega (arith, P .classes-are)) (classOf b) (subst (λ (x : ℕ). Classed 256 x (classOf b)) (P .classes-are) (P .all-classed)),
+  )

@@ -6,14 +6,8 @@ use Prim.Native.Nat.{ℕ, _+_, _≤_, _<_}
 use lib.Dec.{ltb, eqb}
 use lib.ListN.{getD}
 use Rattle.paper.specs.Words.{number16}
-use Rattle.paper.specs.View.{View}
 use Rattle.paper.specs.Image.{entryAt, imageView}
-
--- A state's cursor stands before its entry j: the entries before it have classes below c, it and those behind it have not.
-pub record Cursor (v : View) (c s j : ℕ) : Type 0 where
-  pub within : j ≤ v .count s
-  pub under : (i : ℕ) → i < j → v .entryClass s i < c
-  pub over : (i : ℕ) → j ≤ i → i < v .count s → c ≤ v .entryClass s i
+use Rattle.abreast.specs.Keeps.{Cursor}
 
 -- The cursor of a state, as a place in the image.
 abbrev pub StandsAt : List ℕ → ℕ → ℕ → ℕ → Type 0

@@ -1,19 +1,18 @@
-// Grounds 11, 12 and 13 of an image that has passed the first ten: class by class, the states each after its default, so that every entry is read once.
+// Grounds 11, 12 and 13 of an image that has passed the first ten: two classes at a time, the states each after its default, so that every entry is read once.
 ghost use mathlib.Core.Path.{_≡_};
 ghost use mathlib.Core.Bool.{false};
 ghost use Prim.Native.Nat.{_+_, _≤_, _<_};
 ghost use lib.ListN.{length};
 ghost use Rattle.paper.specs.Below.{any};
 ghost use Rattle.paper.specs.Refusals.{first};
-ghost use Rattle.paper.specs.View.{worstOf, anyEntry, sameAsDefault};
-ghost use Rattle.paper.specs.Image.{classes, entries, classOf, imageView};
+ghost use Rattle.paper.specs.View.{endless, depthOf, worstOf, anyEntry, sameAsDefault};
+ghost use Rattle.paper.specs.Image.{states, classes, entries, classOf, imageView};
 ghost use Rattle.image.specs.Laid.{Begins};
-ghost use Rattle.chains.specs.Orders.{InRange, ParentFirst};
 ghost use Rattle.chains.specs.Sweeps.{Falls, Stores};
+ghost use Rattle.abreast.specs.Keeps.{Ordered};
 ghost use Rattle.image.specs.Grounds.{laterGrounds};
 ghost use Rattle.image.specs.Passed.{Passed};
 ghost use Rattle.sweep.specs.Cursors.{Cursors, ownAt, behind};
-ghost use Rattle.sweep.specs.Needless.{repeats};
 
 // The default of each state as a number, 65535 for none.
 pub fn defaults_of(image: &[u8], n: usize, m: usize) -> [u16; 512]
@@ -78,68 +77,63 @@ pub fn take_class(
     }
 }
 
-// 12 at one state for the class: what it stores is what its default's chain gives.
-fn repeats_at(def: &[u16; 512], own: &[u16; 512], to: &[u16; 512], n: usize, s: usize) -> bool
-    requires { ⌜ (n ≤ 512) × (s < n) × InRange n (now def) ⌝ }
-    ensures { λ r. ⌜ r ≡ repeats (now (def .entry)) (now (own .entry)) (now (to .entry)) s ⌝ }
-{
-    let t = own[s];
-    if t == 65535 {
-        return false;
-    }
-    let d = def[s];
-    if d == 65535 {
-        return false;
-    }
-    to[d as usize] == t
-}
-
-// 12 for the class: some state stores what its default's chain gives.
-fn some_repeats(def: &[u16; 512], own: &[u16; 512], to: &[u16; 512], n: usize) -> bool
-    requires { ⌜ (n ≤ 512) × InRange n (now def) ⌝ }
-    ensures { λ r. ⌜ r ≡ any n (repeats (now (def .entry)) (now (own .entry)) (now (to .entry))) ⌝ }
-{
-    for s in 0..n {
-        if repeats_at(def, own, to, n, s) {
-            return true;
-        }
-    }
-    false
-}
-
 // Whether some entry is what its default's chain gives; if none is, the largest hops.
 struct Swept {
     needless: bool,
     worst: u16,
 }
 
-// 12 and the worst of 13, class by class.
-fn sweep(image: &[u8], n: usize, k: usize, m: usize, def: &[u16; 512], order: &[u16; 512]) -> Swept
-    requires { ⌜ Passed (now image) n k m × Falls (imageView (now image)) n (now def) × ParentFirst n (now def) (now order) ⌝ }
+// 12 and the worst of 13, two classes at a time.
+fn sweep(image: &[u8], n: usize, k: usize, m: usize, order: &[u16; 512]) -> Swept
+    requires { ⌜ Passed (now image) n k m × Ordered (imageView (now image)) n (now order) ⌝ }
     ensures { λ r. ⌜ (r .needless ≡ anyEntry (imageView (now (image .entry))) (sameAsDefault (imageView (now (image .entry)))))
         × (r .needless ≡ false → r .worst ≡ worstOf (imageView (now (image .entry))) (classOf (now (image .entry)))) ⌝ }
 {
-    let begins = image::begins_of(image, n, m);
-    let mut cursor = begins;
-    let mut own = [0u16; 512];
-    let mut to = [0u16; 512];
-    let mut hop = [0u16; 512];
-    let mut worst = 0;
-    for c in 0..k {
-        take_class(image, n, c as u16, &begins, &mut cursor, &mut own);
-        chains::resolve(def, order, n, &own, &mut to, &mut hop);
-        if some_repeats(def, &own, &to, n) {
+    let mut up = [0u16; 512];
+    let mut place = [0u32; 512];
+    let mut left = [0u16; 512];
+    let mut wait = [0u16; 512];
+    abreast::opening::open_rows(image, n, m, &mut up, &mut place, &mut left, &mut wait);
+    let mut to = [65535u16; 1026];
+    let mut hop = [0u16; 1026];
+    let mut most = 1024;
+    let mut first = 0;
+    while first < k {
+        if abreast::two_classes(
+            image,
+            n,
+            first,
+            order,
+            &up,
+            &mut place,
+            &mut left,
+            &mut wait,
+            &mut to,
+            &mut hop,
+        ) {
             return Swept {
                 needless: true,
                 worst: 0,
             };
         }
-        worst = chains::largest(&hop, n, worst);
+        most = words::largest(&hop, 2 * n, most);
+        first += 2;
     }
+    let worst = most - 1024;
     Swept {
         needless: false,
         worst,
     }
+}
+
+// 11: whether some chain has no end; if none has, the depth and the states each after its default. The list of defaults is gone when the sweep begins.
+fn ordered(image: &[u8], n: usize, m: usize) -> chains::Order
+    requires { ⌜ Passed (now image) n (classes (now image)) m ⌝ }
+    ensures { λ r. ⌜ (any (states (now (image .entry))) (endless (imageView (now (image .entry)))) ≡ r .endless)
+        × (r .endless ≡ false → (depthOf (imageView (now (image .entry))) ≡ r .depth) × Ordered (imageView (now (image .entry))) n (r .order)) ⌝ }
+{
+    let def = defaults_of(image, n, m);
+    chains::order_of(&def, n)
 }
 
 // 11, 12 and 13 of an image that has passed the first ten grounds.
@@ -147,12 +141,11 @@ pub fn last_grounds(image: &[u8], n: usize, k: usize, m: usize) -> u32
     requires { ⌜ Passed (now image) n k m ⌝ }
     ensures { λ r. ⌜ r ≡ first (laterGrounds (now (image .entry))) ⌝ }
 {
-    let def = defaults_of(image, n, m);
-    let chains = chains::order_of(&def, n);
+    let chains = ordered(image, n, m);
     if chains.endless {
         return 11;
     }
-    let swept = sweep(image, n, k, m, &def, &chains.order);
+    let swept = sweep(image, n, k, m, &chains.order);
     if swept.needless {
         return 12;
     }

@@ -40,19 +40,18 @@ fn length_bad(t: &[u8], n: usize, k: usize, word: u16) -> bool
     t.len() != 262 + 2 * n + 2 * behind + 2 * (n * k)
 }
 
-// Ground 7, first half: a byte's class, of the 256 that stand from `at` on, is not below k.
+// Ground 7, first half: a byte's class, of the 256 that stand from `at` on, is not below k. It is so where the largest is not.
 fn class_high(b: &[u8], at: usize, k: usize) -> bool
-    requires { ⌜ at + 256 ≤ length (now b) ⌝ }
+    requires { ⌜ (at + 256 ≤ length (now b)) × (0 < k) ⌝ }
     ensures { λ r. ⌜ r ≡ any 256 (λ x. leb k (byteAt (now (b .entry)) (at + x))) ⌝ }
 {
+    let mut most = 0;
     let mut x = 0;
     while x < 256 {
-        if k <= words::wide(b[at + x]) as usize {
-            return true;
-        }
+        most = words::larger(words::wide(b[at + x]), most);
         x += 1;
     }
-    false
+    k <= most as usize
 }
 
 // A mark for each class that a byte has, of the 256 that stand from `at` on.
@@ -87,7 +86,7 @@ fn class_missing(b: &[u8], at: usize, k: usize) -> bool
 
 // Ground 7: a byte's class, of the 256 that stand from `at` on, is not below k, or no byte has some class below k.
 pub fn classes_bad(b: &[u8], at: usize, k: usize) -> bool
-    requires { ⌜ (at + 256 ≤ length (now b)) × (k ≤ 256) ⌝ }
+    requires { ⌜ (at + 256 ≤ length (now b)) × (k ≤ 256) × (0 < k) ⌝ }
     ensures { λ r. ⌜ r ≡ classesBad k (λ x. byteAt (now (b .entry)) (at + x)) ⌝ }
 {
     if class_high(b, at, k) {

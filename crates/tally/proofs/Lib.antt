@@ -1,3 +1,4 @@
 pub mod Counting
 pub mod Owned
 pub mod Shared
+pub mod Eight

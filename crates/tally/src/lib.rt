@@ -1,15 +1,14 @@
-// What the image of a table with defaults will hold: the entries that each state keeps, and the worst.
+// What the image of a table with defaults will hold: the entries that each state keeps.
 ghost use mathlib.Core.Path.{_≡_};
-ghost use Prim.Native.Nat.{_≤_, _<_, max};
+ghost use Prim.Native.Nat.{_≤_, _<_};
 ghost use lib.ListN.{getD};
 ghost use Rattle.paper.specs.Below.{any, sum};
-ghost use Rattle.paper.specs.Table.{classOf};
-ghost use Rattle.paper.specs.View.{worstOf};
 ghost use Rattle.paper.specs.Image.{defaultFrom};
 ghost use Rattle.table.specs.Counted.{Counted};
 ghost use Rattle.chains.specs.Orders.{InRange};
 ghost use Rattle.tally.specs.Kept.{kept, keptCount, Counts, sharesFew};
-ghost use Rattle.tally.specs.Owned.{listView, ownNumber, Owns, mostHops, Ordered};
+
+pub mod hops;
 
 // Whether state s, whose default is d or which has none, keeps class c as an entry.
 pub fn keeps(t: &[u8], n: usize, k: usize, d: u16, s: usize, c: usize) -> bool
@@ -92,61 +91,4 @@ pub fn sum_of(list: &[u16; 512], n: usize) -> u32
         all += wide(list[s]);
     }
     all
-}
-
-// What state s, whose default is d or which has none, stores for class c: its next state, or 65535 for nothing stored here.
-fn own_at(t: &[u8], n: usize, k: usize, d: u16, s: usize, c: usize) -> u16
-    requires { ⌜ Counted (now t) n k × (s < n) × (c < k) × (¬ (d ≡ 65535) → d < n) ⌝ }
-    ensures { λ r. ⌜ r ≡ ownNumber (now (t .entry)) c s d ⌝ }
-{
-    if keeps(t, n, k, d, s, c) {
-        return table::next_state(t, n, k, s, c);
-    }
-    65535
-}
-
-// What each state stores for class c.
-fn own_of(t: &[u8], n: usize, k: usize, def: &[u16; 512], c: usize) -> [u16; 512]
-    requires { ⌜ Counted (now t) n k × InRange n (now def) × (c < k) ⌝ }
-    ensures { λ r. ⌜ Owns (now (t .entry)) n (now (def .entry)) c r ⌝ }
-{
-    let mut own = [0u16; 512];
-    for s in 0..n {
-        let d = def[s];
-        let x = own_at(t, n, k, d, s, c);
-        own[s] = x;
-    }
-    own
-}
-
-// The most hops that a state takes for class c, and at least `least`.
-fn most_hops(
-    t: &[u8],
-    n: usize,
-    k: usize,
-    def: &[u16; 512],
-    order: &[u16; 512],
-    c: usize,
-    least: u16,
-) -> u16
-    requires { ⌜ Ordered (now t) n k (now def) (now order) × (c < k) ⌝ }
-    ensures { λ r. ⌜ r ≡ max least (mostHops (listView (now (t .entry)) (now (def .entry))) c) ⌝ }
-{
-    let own = own_of(t, n, k, def, c);
-    let mut to = [0u16; 512];
-    let mut hop = [0u16; 512];
-    chains::resolve(def, order, n, &own, &mut to, &mut hop);
-    chains::largest(&hop, n, least)
-}
-
-// The worst: the most hops that a state takes for a class. Each state of each class is looked at once, so this takes steps in proportion to n k.
-pub fn worst_of(t: &[u8], n: usize, k: usize, def: &[u16; 512], order: &[u16; 512]) -> u16
-    requires { ⌜ Ordered (now t) n k (now def) (now order) ⌝ }
-    ensures { λ r. ⌜ r ≡ worstOf (listView (now (t .entry)) (now (def .entry))) (classOf (now (t .entry))) ⌝ }
-{
-    let mut worst: u16 = 0;
-    for c in 0..k {
-        worst = most_hops(t, n, k, def, order, c, worst);
-    }
-    worst
 }

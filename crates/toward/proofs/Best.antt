@@ -1,52 +1,26 @@
--- By levels and weights in arrays: the first state of lower level with the largest weight is the default of order 3.
+-- By levels in an array: the first state of lower level that shares the most classes is the default of order 3.
 use mathlib.Core.Path.{_≡_, refl, sym, ap, _∙_}
 use mathlib.Core.Bool.{Bool, true, false, cond, _&&_}
 use mathlib.Core.List.{List}
 use mathlib.Core.Logic.{_⊎_, inl, inr}
 use mathlib.Core.Option.{Option, none, some}
-use Prim.Native.Nat.{ℕ, _-_, _*_, _≤_, _<_}
-use native.Mathlib.Decide.{ℕ-discrete, decLt}
+use Prim.Native.Nat.{ℕ, _≤_, _<_}
 use native.Mathlib.Omega.{arith}
-use lib.Dec.{ltb, leb, eqb}
+use lib.Dec.{ltb, leb}
 use lib.ListN.{getD}
-use borrow.Author.Tests.{eq-eqb, ne-eqb, lt-ltb, le-ltb, le-leb, leb-true}
+use borrow.Author.Tests.{ne-eqb, le-ltb, le-leb, leb-true}
 use Rattle.paper.specs.Below.{when, or}
-use Rattle.paper.specs.Table.{states, classes, next, shared}
-use Rattle.paper.specs.Forest.{weight}
+use Rattle.paper.specs.Table.{states, shared}
 use Rattle.paper.specs.FallBack.{level, lower, sharesMost, towardStart}
 use Rattle.paper.proofs.Below.{bool-false, and-true, every-all, every-at, firstOf-none, firstOf-at}
-use Rattle.paper.proofs.Counts.{count-same}
 use Rattle.levels.proofs.Levels.{level-below}
-use Rattle.levels.proofs.FallBack.{lower-is, falls-unreached}
-use Rattle.paper.proofs.Chain.{some-same}
-use Rattle.weights.specs.Weighed.{Weighed}
+use Rattle.levels.proofs.FallBack.{falls-unreached}
 use Rattle.weights.specs.Chosen.{Stands}
 use Rattle.toward.specs.Marked.{LevelsIn}
-use Rattle.toward.specs.Found.{weightBetween, candidate}
+use Rattle.toward.specs.Found.{candidate}
 use Rattle.toward.proofs.Picked.{First, Picked}
 
--- A weight is one less than the classes shared.
-weight-shared : (t : List ℕ) (u v : ℕ) → weight t u v ≡ shared t u v - 1
-unfolding weight
-weight-shared t u v = refl
-
--- Two states share as many classes either way.
-shared-same : (t : List ℕ) (u v : ℕ) → shared t u v ≡ shared t v u
-shared-same t u v = count-same (classes t) (λ c. eqb (next t u c) (next t v c)) (λ c. eqb (next t v c) (next t u c)) (λ c h. go (next t u c) (next t v c) (ℕ-discrete (next t u c) (next t v c)))
-  where
-    go : (a b : ℕ) → Dec (a ≡ b) → eqb a b ≡ eqb b a
-    go a b (yes q) = rw (eq-eqb a b q, eq-eqb b a (sym q))
-    go a b (no q) = rw (ne-eqb a b q, ne-eqb b a (λ z. q (sym z)))
-
-module _ (t : List ℕ) (n : ℕ) (few : n ≤ 512) (en : n ≡ states t) (levels weights : List ℕ) (L : LevelsIn t n levels) (W : Weighed t n weights (n * 512)) (x : ℕ) (hx : x < n) where
-  -- The weights in the array, whichever state is the smaller.
-  between : (y : ℕ) → y < n → ¬ (x ≡ y) → weightBetween weights x y ≡ shared t x y - 1
-  between y hy ne = go (decLt x y)
-    where
-      go : Dec (x < y) → weightBetween weights x y ≡ shared t x y - 1
-      go (yes h) = rw (lt-ltb x y h) (W x y h hy (omega arith) ∙ weight-shared t x y)
-      go (no h) = rw (le-ltb x y (omega arith)) (W y x (omega arith) hx (omega arith) ∙ weight-shared t y x ∙ ap (λ (a : ℕ). a - 1) (shared-same t y x))
-
+module _ (t : List ℕ) (n : ℕ) (few : n ≤ 512) (en : n ≡ states t) (levels : List ℕ) (L : LevelsIn t n levels) (x : ℕ) (hx : x < n) where
   -- A state that has no level in the array has no default.
   pub unreached-falls : getD levels x 0 ≡ 65535 → Stands n (towardStart t x) 65535
   unreached-falls e = record { default-is = sym (falls-unreached t x (go (level t x) refl)); state-is = inl refl }
@@ -64,15 +38,9 @@ module _ (t : List ℕ) (n : ℕ) (few : n ≤ 512) (en : n ≡ states t) (level
         go none = le-ltb 65535 l (omega (arith, level-below t x l (omega arith) e))
         go (some m) = refl
 
-    -- What is looked at for each state: of one of lower level the classes shared, less one, else 0.
-    candidate-is : (y : ℕ) → y < n → candidate levels weights x y ≡ cond (lower (level t y) (level t x)) (shared t x y - 1) 0
-    candidate-is y hy = rw (lower-in y hy) (go (lower (level t y) (level t x)) refl)
-      where
-        go : (b : Bool) → lower (level t y) (level t x) ≡ b → cond b (weightBetween weights x y) 0 ≡ cond b (shared t x y - 1) 0
-        go true q =
-            between y hy
-            (λ z. let (a, b, qa, qb, h) = lower-is (level t y) (level t x) q in omega (arith, some-same (sym qa ∙ ap (level t) (sym z) ∙ qb)))
-        go false q = refl
+    -- What is looked at for each state: of one of lower level the classes shared, else 0.
+    candidate-is : (y : ℕ) → y < n → candidate t levels x y ≡ cond (lower (level t y) (level t x)) (shared t x y) 0
+    candidate-is y hy = rw (lower-in y hy)
 
     -- The test that finds the default.
     abbrev test : ℕ → Bool
@@ -80,7 +48,7 @@ module _ (t : List ℕ) (n : ℕ) (few : n ≤ 512) (en : n ≡ states t) (level
 
     -- What a state that passes it is.
     test-is : (y : ℕ) → y < n → test y ≡ true
-        → (candidate levels weights x y ≡ shared t x y - 1) × (2 ≤ shared t x y) × ((z : ℕ) → z < n → lower (level t z) (level t x) ≡ true → shared t x z ≤ shared t x y)
+        → (candidate t levels x y ≡ shared t x y) × (2 ≤ shared t x y) × ((z : ℕ) → z < n → lower (level t z) (level t x) ≡ true → shared t x z ≤ shared t x y)
     test-is y hy q =
         let (a, b) = and-true (lower (level t y) (level t x)) (leb 2 (shared t x y) && sharesMost t (level t) x y) q in
         let (c, d) = and-true (leb 2 (shared t x y)) (sharesMost t (level t) x y) b in (
@@ -90,30 +58,30 @@ module _ (t : List ℕ) (n : ℕ) (few : n ≤ 512) (en : n ≡ states t) (level
               (rw w at (every-at (states t) z (λ z. cond (lower (level t z) (level t x)) (leb (shared t x z) (shared t x y)) true) d (omega arith))),
         )
 
-    -- Where no candidate is above 0 there is no default.
-    none-falls : ((z : ℕ) → z < n → candidate levels weights x z ≤ 0) → towardStart t x ≡ none
+    -- Where no candidate is above 1 there is no default.
+    none-falls : ((z : ℕ) → z < n → candidate t levels x z ≤ 1) → towardStart t x ≡ none
     unfolding towardStart
     none-falls none-above =
         firstOf-none (states t) test
         (λ y hy. bool-false (test y) (λ q. let (a, b, _) = test-is y (omega arith) q in omega (arith, none-above y (omega arith))))
 
     -- A candidate above 0 is a state of lower level.
-    candidate-lower : (y : ℕ) → y < n → 0 < candidate levels weights x y → (lower (level t y) (level t x) ≡ true) × (candidate levels weights x y ≡ shared t x y - 1)
+    candidate-lower : (y : ℕ) → y < n → 0 < candidate t levels x y → (lower (level t y) (level t x) ≡ true) × (candidate t levels x y ≡ shared t x y)
     candidate-lower y hy h = go (lower (level t y) (level t x)) refl
       where
-        go : (b : Bool) → lower (level t y) (level t x) ≡ b → (lower (level t y) (level t x) ≡ true) × (candidate levels weights x y ≡ shared t x y - 1)
+        go : (b : Bool) → lower (level t y) (level t x) ≡ b → (lower (level t y) (level t x) ≡ true) × (candidate t levels x y ≡ shared t x y)
         go true q = (q, candidate-is y hy ∙ rw q)
-        go false q = absurd (omega (arith, candidate-is y hy ∙ ap (λ (b : Bool). cond b (shared t x y - 1) 0) q))
+        go false q = absurd (omega (arith, candidate-is y hy ∙ ap (λ (b : Bool). cond b (shared t x y) 0) q))
 
     -- The first largest candidate is the default.
-    first-falls : (best y : ℕ) → ((z : ℕ) → z < n → candidate levels weights x z ≤ best) → First (candidate levels weights x) n best y → towardStart t x ≡ some y
+    first-falls : (best y : ℕ) → ((z : ℕ) → z < n → candidate t levels x z ≤ best) → First (candidate t levels x) n best y → towardStart t x ≡ some y
     unfolding towardStart
     first-falls best y most F =
         let hy = F .below in
         let (low, is) = candidate-lower y hy (omega (arith, F .above, F .value-is)) in
         let two : 2 ≤ shared t x y = omega (arith, F .above, F .value-is) in
         let no-more : (z : ℕ) → z < n → lower (level t z) (level t x) ≡ true → shared t x z ≤ shared t x y = λ z hz w.
-        let c : candidate levels weights x z ≡ shared t x z - 1 = candidate-is z hz ∙ rw w in
+        let c : candidate t levels x z ≡ shared t x z = candidate-is z hz ∙ rw w in
         omega (arith, most z hz, F .value-is) in
         let passes : test y ≡ true =
         rw (low, le-leb 2 (shared t x y) two)
@@ -129,10 +97,10 @@ module _ (t : List ℕ) (n : ℕ) (few : n ≤ 512) (en : n ≡ states t) (level
         at z false h = refl
 
     -- What was picked among all states is the default.
-    picked-level : (best at : ℕ) → Picked (candidate levels weights x) n best at → Stands n (towardStart t x) at
+    picked-level : (best at : ℕ) → Picked (candidate t levels x) n best at → Stands n (towardStart t x) at
     picked-level best at P = go (P .found)
       where
-        go : ((best ≡ 0) × (at ≡ 65535)) ⊎ First (candidate levels weights x) n best at → Stands n (towardStart t x) at
+        go : ((best ≡ 1) × (at ≡ 65535)) ⊎ First (candidate t levels x) n best at → Stands n (towardStart t x) at
         go (inl (w, q)) = rw q (record { default-is = sym (none-falls (λ z hz. omega (arith, w, P .most z hz))); state-is = inl refl })
         go (inr F) =
             record {
@@ -141,7 +109,7 @@ module _ (t : List ℕ) (n : ℕ) (few : n ≤ 512) (en : n ≡ states t) (level
             }
 
   -- So it is for every state that has a level in the array.
-  pub picked-falls : (best at : ℕ) → ¬ (getD levels x 0 ≡ 65535) → Picked (candidate levels weights x) n best at → Stands n (towardStart t x) at
+  pub picked-falls : (best at : ℕ) → ¬ (getD levels x 0 ≡ 65535) → Picked (candidate t levels x) n best at → Stands n (towardStart t x) at
   picked-falls best at ne P = go (level t x) refl
     where
       go : (o : Option ℕ) → level t x ≡ o → Stands n (towardStart t x) at

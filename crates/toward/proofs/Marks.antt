@@ -1,19 +1,22 @@
 -- Marks in the array of levels: class by class for one state's row, and state by state for one round.
 use mathlib.Core.Path.{_≡_, refl, sym, ap, _∙_}
-use mathlib.Core.Bool.{Bool, true, false, _&&_, _||_, or-true}
+use mathlib.Core.Bool.{Bool, true, false, _&&_, _||_}
 use mathlib.Core.List.{List}
-use Prim.Native.Nat.{ℕ, _+_, _<_}
+use Prim.Native.Nat.{ℕ, zero, suc, _+_, _≤_, _<_}
 use native.Mathlib.Numerals.{add-one}
-use native.Mathlib.Decide.{ℕ-discrete}
+use native.Mathlib.Decide.{ℕ-discrete, decLt}
 use native.Mathlib.Omega.{arith}
-use lib.Dec.{eqb}
+use lib.Dec.{ltb, eqb}
 use lib.ListN.{length, getD, set, length-set}
 use lib.Seq.{getD-set-same, getD-set-other}
-use borrow.Author.Tests.{eq-eqb, ne-eqb}
+use borrow.Author.Tests.{eq-eqb, ne-eqb, lt-ltb, le-ltb}
 use Rattle.paper.specs.Below.{any}
 use Rattle.paper.specs.Table.{next}
 use Rattle.paper.specs.FallBack.{leadsTo}
-use Rattle.toward.specs.Marked.{marked, Marked, finds, has}
+use Rattle.paper.proofs.Below.{any-found, any-none}
+use Rattle.weights.specs.Next.{Next}
+use Rattle.weights.proofs.Next.{Passed}
+use Rattle.toward.specs.Marked.{levelIn, marked, Marked, finds, has}
 
 -- A test that fails adds nothing.
 or-fails : (p b : Bool) → b ≡ false → p ≡ p || b
@@ -131,10 +134,22 @@ module _ (t old cur : List ℕ) (level s : ℕ) (few : level < 512) (M : Marked 
       ∙ rw (add-one s))
       M
 
-  -- A state that has this level was met.
-  pub has-hit : getD cur s 0 ≡ level → true ≡ has old level (s + 1)
-  has-hit q = rw (add-one s, eq-eqb (getD old s 0) level (own-level q)) (sym (or-true (has old level s)))
+-- States that have another level or none are passed over.
+pub round-passed : (t old cur : List ℕ) (level : ℕ) → level < 512 → (s r : ℕ) → s ≤ r → Passed (levelIn cur) s level r
+    → Marked old cur (finds t old level s) (level + 1) → Marked old cur (finds t old level r) (level + 1)
+round-passed t old cur level few s zero l P M = let e : s ≡ 0 = omega arith in rw e at M
+round-passed t old cur level few s (suc r) l P M =
+    elim (ℕ-discrete s (suc r)) [
+      | yes e ↦ rw e at M
+      | no e ↦
+          let before = round-passed t old cur level few s r (omega arith) (λ j h k. P j h (omega arith)) M in
+          rw (add-one r) at (round-miss t old cur level r few before (P r (omega arith) (omega arith)))
+    ]
 
-  -- None was met before, and this one has not this level.
-  pub has-miss : (met : Bool) → ¬ (getD cur s 0 ≡ level) → met ≡ has old level s → met ≡ has old level (s + 1)
-  has-miss met q e = e ∙ or-fails (has old level s) (eqb (getD old s 0) level) (ne-eqb (getD old s 0) level (other-level q)) ∙ rw (add-one s)
+-- Some state has this level where the first that has it is below n.
+pub has-first : (levels : List ℕ) (level n r : ℕ) → Next n (levelIn levels) 0 level r → ltb r n ≡ has levels level n
+has-first levels level n r N =
+    elim (decLt r n) [
+      | yes h ↦ lt-ltb r n h ∙ sym (any-found n r (λ s. eqb (levelIn levels s) level) h (eq-eqb (levelIn levels r) level (N .found h)))
+      | no h ↦ le-ltb r n (omega arith) ∙ sym (any-none n (λ s. eqb (levelIn levels s) level) (λ s k. ne-eqb (levelIn levels s) level (N .passed s (omega arith) (omega arith))))
+    ]

@@ -9,6 +9,10 @@ use lib.ListN.{length, getD}
 use Rattle.paper.specs.Below.{any, or}
 use Rattle.paper.specs.FallBack.{leadsTo, levels}
 
+-- The level of a state in an array.
+abbrev pub levelIn : List ℕ → ℕ → ℕ
+levelIn levels s = getD levels s 0
+
 -- A level after a mark: the mark where the test passes and there was no level, else what there was.
 abbrev pub marked : ℕ → Bool → ℕ → ℕ
 marked old test mark = cond (test && eqb old 65535) mark old

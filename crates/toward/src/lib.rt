@@ -1,14 +1,14 @@
-// The defaults of order 3: the level of each state, and for each the state of lower level that shares the most next states with it.
+// The defaults of order 3: the level of each state, and for each the state of lower level that shares the most next states with it. Only pairs of two levels are compared.
 ghost use mathlib.Core.Path.{_≡_};
-ghost use Prim.Native.Nat.{_+_, _*_, _≤_, _<_};
+ghost use Prim.Native.Nat.{_+_, _≤_, _<_};
 ghost use lib.ListN.{length};
 ghost use Rattle.paper.specs.Table.{states, classes};
 ghost use Rattle.paper.specs.FallBack.{leadsTo, towardStart};
 ghost use Rattle.facts.proofs.TableFacts.{AcceptedTable};
-ghost use Rattle.weights.specs.Weighed.{Weighed};
-ghost use Rattle.weights.specs.Chosen.{Chosen};
-ghost use Rattle.toward.specs.Marked.{Marked, finds, has, LevelsIn};
-ghost use Rattle.toward.specs.Found.{candidate, Finds, FindsAll};
+ghost use Rattle.table.specs.Counted.{Counted};
+ghost use Rattle.weights.specs.Next.{Next};
+ghost use Rattle.weights.specs.Chosen.{Stands, Chosen};
+ghost use Rattle.toward.specs.Marked.{levelIn, Marked, finds, has, LevelsIn};
 
 // Each next state of s that has no level yet is marked.
 fn mark_row(t: &[u8], n: usize, k: usize, s: usize, levels: &mut [u16; 512], mark: u16)
@@ -23,19 +23,33 @@ fn mark_row(t: &[u8], n: usize, k: usize, s: usize, levels: &mut [u16; 512], mar
     }
 }
 
+// The first state from `from` on that has this level, n where none has.
+fn next_at(levels: &[u16; 512], n: usize, from: usize, level: u16) -> usize
+    requires { ⌜ (n ≤ 512) × (from ≤ n) ⌝ }
+    ensures { λ r. ⌜ Next n (levelIn (now (levels .entry))) from level r ⌝ }
+{
+    let mut s = from;
+    while s < n {
+        if levels[s] == level {
+            return s;
+        }
+        s += 1;
+    }
+    s
+}
+
 // One round: each next state of a state of this level that has no level yet is of the next one. Whether any state has this level.
 fn mark_round(t: &[u8], n: usize, k: usize, levels: &mut [u16; 512], level: u16) -> bool
     requires { ⌜ AcceptedTable (now t) × (n ≡ states (now t)) × (k ≡ classes (now t)) × (level < 512) × (length (now levels) ≡ 512) ⌝ }
     ensures { λ r. ⌜ Marked (now (levels .entry)) (now (levels .exit)) (finds (now (t .entry)) (now (levels .entry)) level n) (level + 1) × (r ≡ has (now (levels .entry)) level n) ⌝ }
 {
-    let mut met = false;
-    for s in 0..n {
-        if levels[s] == level {
-            mark_row(t, n, k, s, levels, level + 1);
-            met = true;
-        }
+    let first = next_at(levels, n, 0, level);
+    let mut s = first;
+    while s < n {
+        mark_row(t, n, k, s, levels, level + 1);
+        s = next_at(levels, n, s + 1, level);
     }
-    met
+    first < n
 }
 
 // The level of each state of an accepted table, 65535 for none: round by round, until no state has the level of a round.
@@ -54,57 +68,38 @@ fn levels_of(t: &[u8], n: usize, k: usize) -> [u16; 512]
     levels
 }
 
-// The weight of the pair of x and y where y is of lower level than x, else 0.
-fn share_of(levels: &[u16; 512], weights: &[u8; 262144], x: usize, y: usize) -> u8
-    requires { ⌜ (x < 512) × (y < 512) ⌝ }
-    ensures { λ r. ⌜ r ≡ candidate (now (levels .entry)) (now (weights .entry)) x y ⌝ }
+// The default of x: of the states of lower level the first that shares the most classes with it, if those are at least two; 65535 for none.
+fn fall_of(t: &[u8], n: usize, k: usize, levels: &[u16; 512], x: usize) -> u16
+    requires { ⌜ Counted (now t) n k × (x < n) × LevelsIn (now t) n (now levels) ⌝ }
+    ensures { λ r. ⌜ Stands n (towardStart (now (t .entry)) x) r ⌝ }
 {
-    if levels[x] <= levels[y] {
-        return 0;
-    }
-    if x < y {
-        return weights[x * 512 + y];
-    }
-    weights[y * 512 + x]
-}
-
-// The default of x: of the states of lower level the first with the largest weight, if that is at least 1; 65535 for none.
-fn fall_of(levels: &[u16; 512], weights: &[u8; 262144], n: usize, x: usize) -> u16
-    requires { ⌜ (n ≤ 512) × (x < n) ⌝ }
-    ensures { λ r. ⌜ Finds n (now (levels .entry)) (now (weights .entry)) x r ⌝ }
-{
-    if levels[x] == 65535 {
+    let level = levels[x];
+    if level == 65535 {
         return 65535;
     }
-    let mut best: u8 = 0;
+    let mut best: u16 = 1;
     let mut at: u16 = 65535;
     for y in 0..n {
-        let share = share_of(levels, weights, x, y);
-        if best < share {
-            best = share;
-            at = y as u16;
+        if levels[y] < level {
+            let share = weights::shared_of(t, n, k, x, y);
+            if best < share {
+                best = share;
+                at = y as u16;
+            }
         }
     }
     at
 }
 
-// The default of each state, for the levels and weights of any table.
-fn fall_all(levels: &[u16; 512], weights: &[u8; 262144], n: usize) -> [u16; 512]
-    requires { ⌜ n ≤ 512 ⌝ }
-    ensures { λ r. ⌜ FindsAll n (now (levels .entry)) (now (weights .entry)) r n ⌝ }
-{
-    let mut chosen = [65535u16; 512];
-    for x in 0..n {
-        chosen[x] = fall_of(levels, weights, n, x);
-    }
-    chosen
-}
-
-// The defaults of an accepted table toward the start, by the weights of its pairs: for each state its default, or 65535 for none.
-pub fn defaults_of(t: &[u8], n: usize, k: usize, weights: &[u8; 262144]) -> [u16; 512]
-    requires { ⌜ AcceptedTable (now t) × (n ≡ states (now t)) × (k ≡ classes (now t)) × Weighed (now t) n (now weights) (n * 512) ⌝ }
+// The defaults of an accepted table toward the start: for each state its default, or 65535 for none.
+pub fn defaults_of(t: &[u8], n: usize, k: usize) -> [u16; 512]
+    requires { ⌜ AcceptedTable (now t) × (n ≡ states (now t)) × (k ≡ classes (now t)) ⌝ }
     ensures { λ r. ⌜ Chosen n (towardStart (now (t .entry))) r ⌝ }
 {
     let levels = levels_of(t, n, k);
-    fall_all(&levels, weights, n)
+    let mut chosen = [65535u16; 512];
+    for x in 0..n {
+        chosen[x] = fall_of(t, n, k, &levels, x);
+    }
+    chosen
 }

@@ -1,3 +1,5 @@
 pub mod Weighed
 pub mod Named
 pub mod Chosen
+pub mod Laid
+pub mod Next

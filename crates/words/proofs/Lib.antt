@@ -1,4 +1,5 @@
 pub mod Placed
+pub mod Put
 pub mod Behind
 pub mod Laid
 pub mod Written

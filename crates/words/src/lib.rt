@@ -1,7 +1,8 @@
-// Little-endian numbers in lent bytes, read and written, the larger of two, bytes copied, and the check word.
+// Little-endian numbers in lent bytes, read and written, the largest of some, bytes copied, and the check word.
 ghost use mathlib.Core.Path.{_≡_};
 ghost use Prim.Native.Nat.{_+_, _%_, _≤_, _<_, _^_, max};
-ghost use lib.ListN.{length, take, drop};
+ghost use lib.ListN.{length, getD, take, drop};
+ghost use Rattle.paper.specs.Below.{largest as largestOf};
 ghost use Rattle.paper.specs.Words.{number16, number32, bytes16, bytes32, words, checkWord};
 ghost use Rattle.words.specs.Placed.{placed};
 
@@ -51,6 +52,19 @@ pub fn larger(a: u16, b: u16) -> u16
     ensures { λ r. ⌜ r ≡ max a b ⌝ }
 {
     if a < b { b } else { a }
+}
+
+// The largest of the first n numbers, and of `least`.
+pub fn largest(list: &[u16], n: usize, least: u16) -> u16
+    requires { ⌜ n ≤ length (now list) ⌝ }
+    ensures { λ r. ⌜ r ≡ max least (largestOf n (λ i. getD (now (list .entry)) i 0)) ⌝ }
+{
+    let mut most = least;
+    for i in 0..n {
+        let x = list[i];
+        most = larger(x, most);
+    }
+    most
 }
 
 // Copies `count` bytes, from `start` on, to `at`.

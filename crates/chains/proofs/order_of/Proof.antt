@@ -18,6 +18,9 @@ lengths-requires c κs =
     let start = c .before .before .before .before in
     (start .pre .0, start .pre .1, c .before .before .set-out .ensures .1 (c .before .if1 .left))
 
+slice-aggregate-largest : tie.Need-slice-aggregate-largest
+slice-aggregate-largest c = search needs
+
 largest-requires : tie.Need-largest-requires
 largest-requires c κs = search needs
 
@@ -32,4 +35,4 @@ returns-2 c =
 
 pub order-of-spec : {M : Type 1} → statement M
 order-of-spec =
-    tie.close (tie.spec set-out-requires returns lengths-requires largest-requires returns-2)
+    tie.close (tie.spec set-out-requires returns lengths-requires slice-aggregate-largest largest-requires returns-2)

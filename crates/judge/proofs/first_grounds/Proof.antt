@@ -8,7 +8,7 @@ use Rattle.table.proofs.Decided.{passed, applies, none-left}
 use Rattle.judge.proofs.Judged.{short}
 use Rattle.judge.proofs.first_grounds.Statement.{statement}
 use Rattle.judge.proofs.first_grounds.Tie as tie
-use Rattle.judge.proofs.first_grounds.Proof.Past.{N, S, states-read, at₅, atLabels, at₈, to₃, to₈, past₁, past₂, pastCounts, past₃, past₄, past₅, past₆, past₇, pastLabels, past₈, past₉, ranged, long, counted, counts}
+use Rattle.judge.proofs.first_grounds.Proof.Past.{N, S, states-read, at₅, atLabels, at₈, to₃, to₈, past₁, past₂, pastCounts, past₃, past₄, past₅, past₆, past₇, pastLabels, past₈, past₉, ranged, long, counted, counts, some-states}
 mod Past
 
 returns : tie.Need-returns
@@ -76,7 +76,8 @@ returns-7 c = let r = at₅ (c .before) in applies (past₅ (c .before)) (le-leb
 classes-bad-requires : tie.Need-classes-bad-requires
 classes-bad-requires c κs =
     let p = c .before .before .before .before .before in
-    (omega (arith, counted p .long), ranged (p .before .before .before .before) .counts .few-classes)
+    let R = ranged (p .before .before .before .before) .counts in
+    (omega (arith, counted p .long), R .few-classes, R .some-classes)
 
 returns-8 : tie.Need-returns-8
 returns-8 c = applies (past₆ (c .before .before)) (sym (c .before .classes-bad .ensures) ∙ c .if8 .taken)
@@ -105,7 +106,7 @@ returns-11 : tie.Need-returns-11
 returns-11 c = applies (past₈ (c .before .before .before .before)) (sym (c .before .entry-classes-bad .ensures) ∙ c .if11 .taken)
 
 next-bad-requires : tie.Need-next-bad-requires
-next-bad-requires c κs = let p = to₈ c in (counts p, states-read (at₈ p), at₈ p .get32 .ensures)
+next-bad-requires c κs = let p = to₈ c in (counts p, states-read (at₈ p), at₈ p .get32 .ensures, some-states p)
 
 returns-12 : tie.Need-returns-12
 returns-12 c = applies (past₉ (c .before .before)) (sym (c .before .next-bad .ensures) ∙ c .if12 .taken)

@@ -10,7 +10,7 @@ use Rattle.paper.specs.Image.{imageView}
 use Rattle.image.proofs.Passed.{accepted-passed}
 use Rattle.words.specs.Placed.{placed}
 use Rattle.sweep.specs.Cursors.{StandsAt}
-use Rattle.sweep.proofs.Cursors.{cursor-start}
+use Rattle.abreast.proofs.Cursors.{cursor-start}
 use Rattle.sweep.proofs.Places.{cursor-fits, taken}
 use Rattle.words.proofs.Laid.{Laid, laid-none, laid-room, laid-more}
 use Rattle.rewrite.specs.Staying.{rootEntry}

@@ -1,13 +1,17 @@
 -- Each way out: the image is refused, or the room decides.
 use denote.Ref.{now}
-use mathlib.Core.Path.{sym, ap, _∙_}
+use mathlib.Core.Path.{_≡_, sym, ap, _∙_}
 use mathlib.Core.List.{List}
 use Prim.Native.Nat.{ℕ}
 use native.Mathlib.Omega.{arith}
 use borrow.Author.Needs.{needs}
 use Rattle.paper.specs.Labels.{statesOf}
+use Rattle.paper.specs.Image.{states, classes, entries}
 use Rattle.facts.proofs.ImageFacts.{AcceptedImage, accepted-image}
-use Rattle.rewrite.proofs.Verdict.{rewrite-image, rewrite-fills}
+use Rattle.words.proofs.Lent.{fits-bytes}
+use Rattle.image.proofs.Accepted.{accepted-laid}
+use Rattle.rewrite.proofs.Staying.{none-weak}
+use Rattle.rewrite.proofs.Verdict.{rewrite-image, rewrite-fills, rewrite-copies}
 use Rattle.rewrite.proofs.rewrite.Statement.{statement}
 use Rattle.rewrite.proofs.rewrite.Tie as tie
 
@@ -50,11 +54,18 @@ get32-requires c κs = omega (arith, accepted (c .before .before .before) .long)
 cast-m : tie.Need-cast-m
 cast-m c = search needs
 
+-- The counts that were read are the image's.
+read : (c : tie.After-get32) → let b = bytes (c .before .before .before .before) in
+    AcceptedImage b × (c .before .before .states-of .result ≡ states b) × (c .before .get162 .result ≡ classes b) × (c .get32 .result ≡ entries b)
+read c =
+    let named = c .before .before in
+    (accepted (named .before .before), named .states-of .ensures ∙ ap statesOf (named .before .get16 .ensures), c .before .get162 .ensures, c .get32 .ensures)
+
+some-not-worth-requires : tie.Need-some-not-worth-requires
+some-not-worth-requires c κs = read c
+
 rewrite-accepted-requires : tie.Need-rewrite-accepted-requires
-rewrite-accepted-requires c κs =
-    let read = c .before in
-    let named = read .before .before in
-    (accepted (named .before .before), named .states-of .ensures ∙ ap statesOf (named .before .get16 .ensures), read .before .get162 .ensures, read .get32 .ensures)
+rewrite-accepted-requires c κs = read (c .before .before .before)
 
 same-length : tie.Need-same-length
 same-length c = search needs
@@ -62,9 +73,30 @@ same-length c = search needs
 returns-2 : tie.Need-returns-2
 returns-2 c =
     let done = c .before .before in
-    let passed = done .before .before .before .before .before .before in
+    let passed = done .before .before .before .before .before .before .before .before in
     let a = passed .before .before .before .before .args in
     rewrite-fills (now (a .image)) (now (a .room)) _ _ _ (accepted passed) (done .rewrite-accepted .ensures)
+
+copied-requires : tie.Need-copied-requires
+copied-requires c κs =
+    let b = bytes (c .before .before .before .before .before .before .before) in
+    let L = accepted-laid b (accepted (c .before .before .before .before .before .before .before)) in
+    omega (arith, L .long, L .few-states, L .few-entries, L .few-labels)
+
+same-length-2 : tie.Need-same-length-2
+same-length-2 c = search needs
+
+returns-3 : tie.Need-returns-3
+returns-3 c =
+    let done = c .before .before in
+    let none = done .before .before in
+    let asked = none .before in
+    let passed = asked .before .before .before .before .before in
+    let a = passed .before .before .before .before .args in
+    let b = now (a .image) in
+    let (A, n, k, m) = read (asked .before) in
+    let same = none-weak b (fits-bytes b (passed .before .before .before .shared-slice-known .given)) A _ _ n k (sym (asked .some-not-worth .ensures) ∙ none .if2 .left) in
+    rewrite-copies b (now (a .room)) _ _ _ A same (done .copied .ensures)
 
 pub rewrite-spec : {M : Type 1} → statement M
 rewrite-spec =
@@ -79,6 +111,10 @@ rewrite-spec =
     cast-k
     get32-requires
     cast-m
+    some-not-worth-requires
     rewrite-accepted-requires
     same-length
-    returns-2)
+    returns-2
+    copied-requires
+    same-length-2
+    returns-3)

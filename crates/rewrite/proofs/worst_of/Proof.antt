@@ -3,6 +3,7 @@ use denote.Ref.{now}
 use mathlib.Core.Path.{refl}
 use Prim.Native.Nat.{_-_}
 use native.Mathlib.Omega.{arith}
+use borrow.Author.Needs.{needs}
 use Rattle.rewrite.proofs.Standing.{passed-as}
 use Rattle.rewrite.proofs.Sweeping.{few, Sweeping, sweeping-start, sweeping-more, sweeping-done}
 use Rattle.rewrite.proofs.worst_of.Statement.{statement}
@@ -39,8 +40,11 @@ take-hops-requires c κs =
     let s = begun turn in
     (few (s .pre .0), s .pre .1, turn .before .loop .inv .hop-long)
 
+slice-aggregate-largest : tie.Need-slice-aggregate-largest Inv-loop μ-loop
+slice-aggregate-largest c = search needs
+
 largest-requires : tie.Need-largest-requires Inv-loop μ-loop
-largest-requires c κs = let turn = c .before .before .before .before .before .before .before in few (begun turn .pre .0)
+largest-requires c κs = let turn = c .before .before .before .before .before .before .before in omega (arith, few (begun turn .pre .0))
 
 add-c : tie.Need-add-c Inv-loop μ-loop
 add-c c =
@@ -73,6 +77,7 @@ worst-of-spec =
     cast-take-class
     take-class-requires
     take-hops-requires
+    slice-aggregate-largest
     largest-requires
     add-c
     loop-less

@@ -1,94 +1,88 @@
--- The loop's invariant: none of the classes so far is needless anywhere, and `worst` is the largest hops of them.
-use mathlib.Core.Path.{refl, sym, _∙_}
+-- The loop's invariant: none of the classes so far is needless anywhere, and `most` is 1024 more than the largest hops of them.
+use mathlib.Core.Path.{_≡_, refl, sym, _∙_}
 use mathlib.Core.Bool.{true≢false}
-use Prim.Native.Nat.{_-_}
+use Prim.Native.Nat.{_-_, _+_, _≤_, _<_}
 use native.Mathlib.Omega.{arith}
+use lib.ListN.{getD-replicate}
 use borrow.Author.Needs.{needs}
+use Rattle.paper.specs.Image.{imageView}
 use Rattle.image.proofs.Passed.{passed-for}
-use Rattle.sweep.proofs.Sweeping.{Sweeping, sweeping-start, sweeping-done, defaults-range, roots-own, sweeping-found, sweeping-more}
+use Rattle.abreast.specs.Keeps.{Above}
+use Rattle.sweep.proofs.Sweeping.{Sweeping, fits, sweeping-start, sweeping-more, sweeping-done}
 use Rattle.sweep.proofs.sweep.Statement.{statement}
 use Rattle.sweep.proofs.sweep.Tie as tie
 
 abbrev Inv-loop : tie.InvT-loop
-Inv-loop image n k m def order begins cursor₀ own₀ to₀ hop₀ worst₀ c₀ cursor own to hop worst c = Sweeping image n k c cursor own to hop worst
+Inv-loop image n k m order up place₀ left₀ wait₀ to₀ hop₀ most₀ first₀ place left wait to hop most first =
+    Above (imageView image) n up × Sweeping image n first place left wait to hop most
 
 abbrev μ-loop : tie.MeasureT-loop
-μ-loop image n k m def order begins cursor₀ own₀ to₀ hop₀ worst₀ c₀ cursor own to hop worst c = k - c
+μ-loop image n k m order up place₀ left₀ wait₀ to₀ hop₀ most₀ first₀ place left wait to hop most first = k - first
 
-begins-of-requires : tie.Need-begins-of-requires Inv-loop μ-loop
-begins-of-requires c κs = let P = c .before .pre .0 in (P .laid, P .states-are, P .entries-are)
+-- The call, from the place where the rows are opened.
+abbrev start : tie.After-open-rows Inv-loop μ-loop → tie.Start Inv-loop μ-loop
+start c = c .before .before .before .before .before .before
+
+open-rows-requires : tie.Need-open-rows-requires Inv-loop μ-loop
+open-rows-requires c κs = let P = c .before .before .before .before .before .pre .0 in (passed-for (P .classes-are) refl P, refl, refl, refl, refl)
 
 loop-holds : tie.Need-loop-holds Inv-loop μ-loop
-loop-holds c = let t = c .before .before in sweeping-start (t .pre .0) _ _ _ _ (c .begins-of .ensures) (search needs) refl refl refl
-
-cast-take-class : tie.Need-cast-take-class Inv-loop μ-loop
-cast-take-class c = let t = c .before .before .before .before in omega (arith, t .pre .0 .few-classes)
-
-take-class-requires : tie.Need-take-class-requires Inv-loop μ-loop
-take-class-requires c κs =
-    let l = c .before .before .before .before in
-    let P = l .before .before .before .pre .0 in
-    (passed-for (P .classes-are) (P .entries-are) P, l .before .begins-of .ensures, l .loop .inv .cursors, l .loop .inv .cursor-long, l .loop .inv .own-long)
-
-resolve-requires : tie.Need-resolve-requires Inv-loop μ-loop
-resolve-requires c κs =
-    let taken = c .before .before .before in
-    let l = taken .before .before .before .before .before in
-    let p = l .before .before .before .pre in (
-      p .0 .few-states,
-      p .2,
-      roots-own (p .0) (p .1) (l .loop .c) (omega arith) (taken .take-class .last .1 .1 .1 .1 .1 .0) (taken .take-class .ensures .0),
-      l .loop .inv .to-long,
-      l .loop .inv .hop-long,
+loop-holds c =
+    let P = start c .pre .0 in
+    let O = c .open-rows .ensures in (
+      O .above,
+      sweeping-start P (record { place-long = O .place-long; left-long = O .left-long; wait-long = O .wait-long; to-long = refl; hop-long = refl })
+          (λ q h. (getD-replicate 1026 (1024 + q) 65535 0 (omega arith), getD-replicate 1026 (1024 + q) 0 0 (omega arith))) (O .stands),
     )
 
-some-repeats-requires : tie.Need-some-repeats-requires Inv-loop μ-loop
-some-repeats-requires c κs =
-    let l = c .before .before .before .before .before .before .before .before .before .before .before in
-    let p = l .before .before .before .pre in
-    (p .0 .few-states, defaults-range (p .0) (p .1))
+two-classes-requires : tie.Need-two-classes-requires Inv-loop μ-loop
+two-classes-requires c κs =
+    let e = c .before .before .before .before .before .before in
+    let l = e .before in
+    let p = start (l .before) .pre in
+    let I = l .loop .inv in
+    (fits (p .0), p .1, I .0, omega (arith, e .loop-test .taken, p .0 .few-classes), I .1 .long, I .1 .bottom, I .1 .stands)
 
 returns : tie.Need-returns Inv-loop μ-loop
-returns c =
-    let resolved = c .before .before .before .before in
-    let taken = resolved .before .before .before .before in
-    let l = taken .before .before .before .before .before in
-    let p = l .before .before .before .pre in (
-      sweeping-found (p .0) (p .1) (l .loop .c) (omega arith) (taken .take-class .last .1 .1 .1 .1 .1 .0) (taken .take-class .ensures .0) (resolved .resolve .ensures)
-          (sym (c .before .some-repeats .ensures) ∙ c .if1 .taken),
-      λ e. absurd (true≢false e),
-    )
+returns c = (sym (c .before .two-classes .ensures .1 (c .if1 .taken)), λ w. absurd (true≢false w))
+
+slice-aggregate-largest : tie.Need-slice-aggregate-largest Inv-loop μ-loop
+slice-aggregate-largest c = search needs
+
+mul-largest : tie.Need-mul-largest Inv-loop μ-loop
+mul-largest c =
+    let l = c .before .before .before .before .before .before .before .before .before .before in
+    omega (arith, start (l .before) .pre .0 .few-states)
 
 largest-requires : tie.Need-largest-requires Inv-loop μ-loop
 largest-requires c κs =
-    let l = c .before .before .before .before .before .before .before .before .before .before .before .before .before .before in
-    l .before .before .before .pre .0 .few-states
+    let l = c .before .before .before .before .before .before .before .before .before .before in
+    omega (arith, start (l .before) .pre .0 .few-states)
 
-add-c : tie.Need-add-c Inv-loop μ-loop
-add-c c =
-    let l = c .before .before .before .before .before .before .before .before .before .before .before .before .before .before .before in
-    omega (arith, l .before .before .before .pre .0 .few-classes)
+add-first : tie.Need-add-first Inv-loop μ-loop
+add-first c =
+    let e = c .before .before .before .before .before .before .before .before .before .before in
+    omega (arith, e .loop-test .taken, start (e .before .before) .pre .0 .few-classes)
 
 loop-less : tie.Need-loop-less Inv-loop μ-loop
 loop-less c = omega arith
 
 loop-again : tie.Need-loop-again Inv-loop μ-loop
 loop-again c =
-    let resolved = c .before .before .before .before .before .before in
-    let taken = resolved .before .before .before .before in
-    let l = taken .before .before .before .before .before in
-    let p = l .before .before .before .pre in
-    let own = taken .take-class .last .1 .1 .1 .1 .1 .0 in
-    let next = taken .take-class .last .1 .1 .1 .1 .0 in
-    let said = taken .take-class .ensures in
-    sweeping-more (p .0) (p .1) (l .loop .c) (omega arith) own (said .0) (resolved .resolve .ensures) (l .loop .inv) next (said .2) (said .3) (said .1)
-    (sym (c .before .before .before .some-repeats .ensures) ∙ c .before .before .if1 .left) (c .largest .result) (c .largest .ensures)
+    let e = c .before .before .before .before .before .before .before .before .before .before in
+    let l = e .before in
+    let P = start (l .before) .pre .0 in
+    let passed = c .before .before .before in
+    (l .loop .inv .0, sweeping-more P (l .loop .inv .1) (e .loop-test .taken) (passed .two-classes .ensures .2 (c .before .before .if1 .left)) (c .largest .result) (c .largest .ensures) (search needs))
+
+sub-worst : tie.Need-sub-worst Inv-loop μ-loop
+sub-worst c = c .before .loop .inv .1 .far .least
 
 returns-2 : tie.Need-returns-2 Inv-loop μ-loop
 returns-2 c =
     let l = c .before in
-    let done = sweeping-done (l .before .before .before .pre .0) (l .loop .inv) (c .loop-test .left) in
-    (done .0, λ _. done .1)
+    let (none, far) = sweeping-done (start (l .before) .pre .0) (l .loop .inv .1) (c .loop-test .left) in
+    (none, λ _. omega (arith, far))
 
 pub sweep-spec : {M : Type 1} → statement M
 sweep-spec =
@@ -96,15 +90,15 @@ sweep-spec =
     (tie.spec
     Inv-loop
     μ-loop
-    begins-of-requires
+    open-rows-requires
     loop-holds
-    cast-take-class
-    take-class-requires
-    resolve-requires
-    some-repeats-requires
+    two-classes-requires
     returns
+    slice-aggregate-largest
+    mul-largest
     largest-requires
-    add-c
+    add-first
     loop-less
     loop-again
+    sub-worst
     returns-2)

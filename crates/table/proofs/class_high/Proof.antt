@@ -1,47 +1,41 @@
--- The loop's invariant: none of the first x bytes has a class that is not below k.
-use mathlib.Core.Path.{_≡_, refl, sym}
-use mathlib.Core.Bool.{Bool, false}
+-- The loop's invariant: the largest class of the first x bytes.
+use mathlib.Core.Path.{_≡_, refl, ap, _∙_}
 use mathlib.Core.List.{List}
-use Prim.Native.Nat.{ℕ, _≤_, _-_, _+_}
+use Prim.Native.Nat.{ℕ, _+_, _-_, _≤_, _<_, max}
+use native.Mathlib.Numerals.{add-one}
 use native.Mathlib.Omega.{arith}
 use lib.Dec.{leb}
-use borrow.Author.Tests.{le-leb, lt-leb}
-use Rattle.paper.specs.Below.{any}
+use borrow.Author.Needs.{needs}
+use Rattle.paper.specs.Below.{largest}
 use Rattle.paper.specs.Words.{byteAt}
-use Rattle.paper.proofs.Below.{any-more, any-found}
+use Rattle.paper.proofs.Below.{largest-any}
 use Rattle.table.proofs.class_high.Statement.{statement}
 use Rattle.table.proofs.class_high.Tie as tie
 
--- The class of byte x is not below k.
-abbrev high : List ℕ → ℕ → ℕ → ℕ → Bool
-high b at k x = leb k (byteAt b (at + x))
+-- The class of byte x.
+abbrev class : List ℕ → ℕ → ℕ → ℕ
+class b at x = byteAt b (at + x)
 
 abbrev Inv-loop : tie.InvT-loop
-Inv-loop b at k x₀ x = (x ≤ 256) × (any x (high b at k) ≡ false)
+Inv-loop b at k most₀ x₀ most x = (x ≤ 256) × (most ≡ largest x (class b at)) × (most < 65536)
 
 abbrev μ-loop : tie.MeasureT-loop
-μ-loop b at k x₀ x = 256 - x
+μ-loop b at k most₀ x₀ most x = 256 - x
 
 loop-holds : tie.Need-loop-holds Inv-loop μ-loop
-loop-holds c = (omega arith, refl)
+loop-holds c = (omega arith, refl, omega arith)
 
 add-wide : tie.Need-add-wide Inv-loop μ-loop
-add-wide c = omega arith
+add-wide c = omega (arith, c .before .before .before .pre .0)
 
 shared-slice-read-wide : tie.Need-shared-slice-read-wide Inv-loop μ-loop
-shared-slice-read-wide c = omega arith
+shared-slice-read-wide c = omega (arith, c .before .before .before .before .pre .0)
 
 wide-requires : tie.Need-wide-requires Inv-loop μ-loop
-wide-requires c κs = omega arith
+wide-requires c κs = search needs
 
-cast-if1 : tie.Need-cast-if1 Inv-loop μ-loop
-cast-if1 c = omega arith
-
-returns : tie.Need-returns Inv-loop μ-loop
-returns c =
-    let l = c .before .before .before .before in
-    let a = l .before .before .args in
-    sym (any-found 256 (l .loop .x) (high (a .b .now) (a .at) (a .k)) (omega arith) (le-leb (a .k) (byteAt (a .b .now) (a .at + l .loop .x)) (omega arith)))
+larger-requires : tie.Need-larger-requires Inv-loop μ-loop
+larger-requires c κs = search needs
 
 add-x : tie.Need-add-x Inv-loop μ-loop
 add-x c = omega arith
@@ -53,10 +47,19 @@ loop-again : tie.Need-loop-again Inv-loop μ-loop
 loop-again c =
     let l = c .before .before .before .before in
     let a = l .before .before .args in
-    (omega arith, any-more (l .loop .x) (high (a .b .now) (a .at) (a .k)) (l .loop .inv .1) (lt-leb (a .k) (byteAt (a .b .now) (a .at + l .loop .x)) (omega arith)))
+    let one-more : largest (l .loop .x + 1) (class (a .b .now) (a .at)) ≡ max (class (a .b .now) (a .at) (l .loop .x)) (largest (l .loop .x) (class (a .b .now) (a .at))) = rw (add-one (l .loop .x)) in
+    (omega arith, omega (arith, c .larger .ensures, c .before .wide .ensures, l .loop .inv .1, one-more), search needs)
 
-returns-2 : tie.Need-returns-2 Inv-loop μ-loop
-returns-2 c = let all : c .before .loop .x ≡ 256 = omega arith in sym (rw all at (c .before .loop .inv .1))
+cast-result : tie.Need-cast-result Inv-loop μ-loop
+cast-result c = omega (arith, c .before .loop .inv .2)
+
+returns : tie.Need-returns Inv-loop μ-loop
+returns c =
+    let l = c .before in
+    let t = l .before .before in
+    let a = t .args in
+    let all : l .loop .x ≡ 256 = omega (arith, l .loop .inv .0, c .loop-test .left) in
+    ap (leb (a .k)) (l .loop .inv .1 ∙ ap (λ (x : ℕ). largest x (class (a .b .now) (a .at))) all) ∙ largest-any (a .k) (t .pre .1) 256 (class (a .b .now) (a .at))
 
 pub class-high-spec : {M : Type 1} → statement M
 class-high-spec =
@@ -68,9 +71,9 @@ class-high-spec =
     add-wide
     shared-slice-read-wide
     wide-requires
-    cast-if1
-    returns
+    larger-requires
     add-x
     loop-less
     loop-again
-    returns-2)
+    cast-result
+    returns)

@@ -155,7 +155,7 @@ returns-5 : tie.Need-returns-5
 returns-5 c = applies (past₃ (c .before)) (le-leb (N (at₃ (c .before))) (S (at₃ (c .before))) (omega arith))
 
 classes-bad-requires : tie.Need-classes-bad-requires
-classes-bad-requires c κs = let C = counted (c .before) in (omega (arith, C .long), C .few-classes)
+classes-bad-requires c κs = let C = counted (c .before) in (omega (arith, C .long), C .few-classes, ranged (c .before .before .before .before .before) .some-classes)
 
 returns-6 : tie.Need-returns-6
 returns-6 c = applies (past₆ (c .before .before)) (sym (c .before .classes-bad .ensures) ∙ c .if6 .taken)

@@ -1,7 +1,7 @@
 -- The places past each ground: what was read there, the grounds that are left, and what is known of the image.
 use mathlib.Core.Path.{_≡_, sym, ap, _∙_}
 use mathlib.Core.List.{List}
-use Prim.Native.Nat.{ℕ}
+use Prim.Native.Nat.{ℕ, _<_}
 use native.Mathlib.Omega.{arith}
 use lib.ListN.{length}
 use borrow.Author.Tests.{lt-leb}
@@ -161,3 +161,9 @@ pub counts : (c : tie.Else10) → Laid (B (at₈ c))
 counts c =
     let C = counted (to₃ (c .before .before .before .before)) in
     counts-laid (B (at₈ c)) (N (at₈ c)) (M (at₈ c)) C (sym (c .before .records-bad .ensures) ∙ c .if10 .left)
+
+-- And it has a state.
+pub some-states : (c : tie.Else10) → 0 < N (at₈ c)
+some-states c =
+    let e = to₃ (c .before .before .before .before) in
+    ranged (e .before .before .before .before) .counts .some-states

@@ -1,0 +1,10 @@
+pub mod Fallen
+pub mod Laying
+pub mod Turning
+pub mod Cursors
+pub mod Stored
+pub mod Keeping
+pub mod Standing
+pub mod Across
+pub mod Going
+pub mod RowsOpened

@@ -1,0 +1,5 @@
+pub mod Rows
+pub mod Laid
+pub mod Turned
+pub mod Keeps
+pub mod Opened
