@@ -7,8 +7,8 @@
 
 enum { CASES = 10000, ROOM = 8192 };
 
-static uint8_t table[ROOM], image[ROOM], list[64], by_archive[ROOM], by_c[ROOM];
-static uint32_t grounds[26];
+static uint8_t table[ROOM], image[ROOM], list[64], strings[ROOM], by_archive[ROOM], by_c[ROOM];
+static uint32_t grounds[29];
 
 /* Plain C has a function for each edition; which it is says the first word, and what is too short for one is refused by either. */
 static int second(const uint8_t *bytes, size_t length) { return length >= 2 && edition_in(bytes) == 2; }
@@ -47,6 +47,22 @@ static kamordast_built written(const uint8_t *sound, size_t length, const uint8_
     return IN_EDITION(image, sound, length)(sound, length, falls, &chains, room, ROOM);
 }
 
+/* Strings of a word list of a few letters, which may be cut, have wrong labels or counts. */
+static void same_strings(size_t room_length, uint32_t number) {
+    uint32_t count = below(20), letters = 1 + below(3);
+    size_t length = 2;
+    set16(strings, 0, count + (below(9) == 0));
+    for (uint32_t i = 0; i < count; i++) {
+        uint32_t size = below(40) ? 1 + below(below(4) ? 6 : 32) : below(36);
+        set16(strings, length, below(30) ? 1 + i * 7 % 20 : below(8));
+        set16(strings, length + 2, size);
+        length += 4;
+        for (; size; size--) strings[length++] = (uint8_t)('a' + below(letters));
+    }
+    length -= below(9) == 0;
+    same("strings", kamordast_strings(strings, length, by_archive, room_length), plain_strings(strings, length, number % 2, by_c, room_length), number);
+}
+
 /* Changes a few bytes between two places, mostly to small numbers. */
 static void damage(uint8_t *bytes, size_t from, size_t to) {
     for (uint32_t times = below(4); times; times--) bytes[from + below((uint32_t)(to - from))] = (uint8_t)(below(3) ? below(6) : below(256));
@@ -69,6 +85,7 @@ int main(void) {
         memset(by_archive, 0, ROOM);
         memset(by_c, 0, ROOM);
         same("judge a table", (kamordast_built){kamordast_judge_table(table, length), 0}, (kamordast_built){IN_EDITION(judge_table, table, length)(table, length), 0}, number);
+        same_strings(room_length, number);
         for (uint32_t order = 0; order <= 4; order++)
             same("compact", kamordast_compact_in_order(table, length, order, (uint16_t)bound, by_archive, room_length),
                  IN_EDITION(compact, table, length)(table, length, order, bound, number % 2, by_c, room_length), number);
@@ -94,7 +111,7 @@ int main(void) {
         if (memcmp(&a, &b, sizeof a) || memcmp(by_archive, by_c, ROOM)) fail("scan", number);
     }
     printf("plain C and the archive agree on %u small cases; answers by number:", (unsigned)CASES);
-    for (uint32_t ground = 0; ground < 26; ground++)
+    for (uint32_t ground = 0; ground < 29; ground++)
         if (grounds[ground]) printf(" %u: %u", (unsigned)ground, (unsigned)grounds[ground]);
     printf("\n");
     return 0;

@@ -23,6 +23,10 @@ void use_largest(const char *shape, uint32_t bound);
 /* The largest table with 511 levels behind the start, compacted with a bound. */
 void use_levels(uint32_t bound);
 
+/* A word list for strings, and its table: the words of the word list of k classes; or 64 strings of up to 32 bytes that share their beginnings, have 512 states and up to 16 labels on a state. */
+void use_listed_words(uint32_t k);
+void use_overlapping_strings(void);
+
 /* The image at hand moved into edition 2, with at most one label on a state. */
 void use_forward(void);
 

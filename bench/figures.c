@@ -160,6 +160,16 @@ static void list_runs(const operation *o) {
     row(o);
 }
 
+/* Strings of both lists of words, and of the strings made to hurt. */
+static void strings_rows(const operation *o) {
+    for (uint32_t k = 27; k <= 209; k += 182) {
+        use_listed_words(k);
+        row(o);
+    }
+    use_overlapping_strings();
+    row(o);
+}
+
 int main(void) {
     word_rows(&judging_a_table, 2);
     random_row(&judging_a_table);
@@ -181,6 +191,8 @@ int main(void) {
     random_row(&write_with_a_list);
     word_rows(&expand, 2);
     random_row(&expand);
+    strings_rows(&strings_of_a_list);
+    strings_rows(&strings_linking);
     rewrite_rows(&rewrite);
     rewrite_rows(&rewrite_with_judging);
     move_rows(&forward, 0);

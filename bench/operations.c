@@ -12,6 +12,7 @@ static kamordast_scanned answered(uint32_t refused) { return (kamordast_scanned)
 
 static kamordast_scanned built(kamordast_built b) { return (kamordast_scanned){b.refused, b.length, 0, 0, 0}; }
 
+#define LIST given.list, given.list_length
 #define TABLE given.table, given.table_length
 #define IMAGE given.image, given.image_length
 #define DEFAULTS given.defaults, given.defaults_length
@@ -40,6 +41,10 @@ static void write_c(void) { by_c.numbers = built(plain_write(TABLE, DEFAULTS, RO
 
 static void expand_archive(void) { by_archive.numbers = built(kamordast_expand(IMAGE, ROOM(by_archive))); }
 static void expand_c(void) { by_c.numbers = built(plain_expand(IMAGE, ROOM(by_c))); }
+
+static void strings_archive(void) { by_archive.numbers = built(kamordast_strings(LIST, ROOM(by_archive))); }
+static void strings_c(void) { by_c.numbers = built(plain_strings(LIST, 0, ROOM(by_c))); }
+static void strings_c_linking(void) { by_c.numbers = built(plain_strings(LIST, 1, ROOM(by_c))); }
 
 static void rewrite_archive(void) { by_archive.numbers = built(kamordast_rewrite(IMAGE, ROOM(by_archive))); }
 static void rewrite_c(void) { by_c.numbers = built(plain_rewrite(IMAGE, ROOM(by_c))); }
@@ -110,6 +115,8 @@ const operation compact_toward = {"compact, order 3", compact_toward_archive, co
 const operation compact_toward_sparing = {"order 3, C sparing", compact_toward_archive, compact_toward_c_sparing, NULL, 0};
 const operation write_with_a_list = {"write", write_archive, write_c, NULL, 0};
 const operation expand = {"expand", expand_archive, expand_c, NULL, 0};
+const operation strings_of_a_list = {"strings", strings_archive, strings_c, NULL, 1};
+const operation strings_linking = {"strings, C linking", strings_archive, strings_c_linking, NULL, 1};
 const operation rewrite = {"rewrite, no judging", rewrite_archive, rewrite_c, judge_image_archive, 0};
 const operation rewrite_with_judging = {"rewrite", rewrite_archive, judge_and_rewrite_c, NULL, 0};
 const operation forward = {"forward, no judging", forward_archive, forward_c, judge_image_archive, 0};

@@ -7,8 +7,8 @@
 
 #include "word_list.h"
 
-/* What a peer counts. ENDS: the offsets at which some word ends. APART: the matches from left to right, the longest at each place, none overlapping. */
-typedef enum { ENDS, APART } counts;
+/* What a peer counts. ENDS: the offsets at which some word ends. APART: the matches from left to right, the longest at each place, none overlapping. ALL: every word at every offset at which it ends; such a peer sums the marks of its matches, too. */
+typedef enum { ENDS, APART, ALL } counts;
 
 typedef struct {
     const char *name;
@@ -25,6 +25,10 @@ extern "C" {
 
 extern uint8_t peer_payload[65536];
 extern size_t peer_found;
+extern uint64_t peer_marks;
+
+/* The mark of the word of this number, from 0, that ends before this offset. */
+static inline uint64_t peer_mark(uint64_t end, uint64_t word) { return (end * 512 + word + 1) * 0x9E3779B97F4A7C15u; }
 
 /* The peers that a program has; the last has no name. */
 extern const peer peers_here[];

@@ -102,6 +102,9 @@ kamordast_built plain_back(const uint8_t *image, size_t length, uint8_t *room, s
 /* An accepted image of either edition without the defaults that share fewer than two classes with their states. */
 kamordast_built plain_rewrite(const uint8_t *image, size_t length, uint8_t *room, size_t room_length);
 
+/* The table of a word list. `linking` tells how labels and 19 are found (plain_strings.c). */
+kamordast_built plain_strings(const uint8_t *list, size_t length, int linking, uint8_t *room, size_t room_length);
+
 /* The walk of a payload through an accepted image. */
 kamordast_scanned plain_scan(const uint8_t *image, size_t length, uint32_t state, const uint8_t *payload, size_t bytes, uint8_t *room, size_t room_length);
 kamordast_scanned plain_second_scan(const uint8_t *image, size_t length, uint32_t state, const uint8_t *payload, size_t bytes, uint8_t *room, size_t room_length);

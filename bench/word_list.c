@@ -1,6 +1,8 @@
 /* Words at random from a seeded source, and payloads made of them. */
 #include "word_list.h"
 
+#include <string.h>
+
 #include "support.h"
 #include "word_table.h"
 
@@ -23,6 +25,16 @@ size_t make_word_list(word_list *list, uint32_t k, uint8_t *table) {
         n = words_add(list->words[w], list->lengths[w]);
     }
     return words_table(table);
+}
+
+void make_overlaps(word_list *list) {
+    seed(8);
+    if (list->number > 64) list->number = 64;
+    for (uint32_t w = 2; w < list->number; w += 3) {
+        uint32_t from = 1 + below(list->lengths[w - 1] - 2);
+        list->lengths[w] = list->lengths[w - 1] - from;
+        memcpy(list->words[w], list->words[w - 1] + from, list->lengths[w]);
+    }
 }
 
 void make_payload(const word_list *list, int near, uint8_t *payload, size_t bytes) {

@@ -15,6 +15,9 @@ typedef struct {
 /* Makes the list of k classes and its table; answers the table's length. */
 size_t make_word_list(word_list *list, uint32_t k, uint8_t *table);
 
+/* Cuts the list to 64 words, as strings takes them, of which every third is made an ending of the word before it: then several words end at one offset. */
+void make_overlaps(word_list *list);
+
 /* Fills the payload: letters and some words (text), or words that end one letter early (near misses). */
 void make_payload(const word_list *list, int near, uint8_t *payload, size_t bytes);
 

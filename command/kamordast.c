@@ -10,12 +10,15 @@
 #include "refusals.h"
 #include "served.h"
 #include "status.h"
+#include "store.h"
+#include "tables.h"
 
-static uint8_t input[LONGEST_IMAGE + 2], list[1024 + 2], payload[LONGEST_PAYLOAD + 2], room[LONGEST_REPORTS + LONGEST_IMAGE];
+static uint8_t input[LONGEST_IMAGE + 2], list[1024 + 2], payload[LONGEST_PAYLOAD + 2];
 
 static const char help[] =
     "usage: kamordast COMMAND ...\n"
     "\n"
+    "  strings [--binary] LIST TABLE  the table of a word list: a line for each string, which is its label, one tab and the string; --binary: bytes as in docs/FORMATS.md\n"
     "  judge FILE                     is FILE an image, or a table? of what size and edition, with how many labels?\n"
     "  compact [--order N] TABLE BOUND IMAGE\n"
     "                                 the image of TABLE with path bound BOUND, 0 to 65535\n"
@@ -33,7 +36,11 @@ static const char help[] =
     "\n"
     "Orders of pairs of equal weight: 0 by pair (where none is named), 1 the shortest path over the pair (BGS), 2 the least growth (REF).\n"
     "Order 3 lets each state fall back toward the start: a whole payload from there costs no more hops than it has bytes, and BOUND changes nothing.\n"
-    "Edition 2 of tables and images has up to 16 labels on a state. Every command takes both editions, and an output file is of its input's, but for forward and back.\n"
+    "Edition 2 of tables and images has up to 16 labels on a state. Every command takes both editions, and an output file is of its input's, but for forward and back; strings makes edition 2.\n"
+    "In a word list \\xNN is a byte by two hexadecimal digits, \\t a tab, \\n a line's end and \\\\ a backslash; 1 to 64 strings of 1 to 32 bytes, labels 1 to 65535.\n"
+    "Example: kamordast strings examples/endings.list endings.table\n"
+    "Example: kamordast compact endings.table 2 endings.image\n"
+    "Example: kamordast scan endings.image README.md\n"
     "Example: kamordast compact --order 3 examples/words.table 0 words.image\n"
     "Example: kamordast served --sort words.image README.md\n"
     "Example: kamordast walk examples/words.table README.md\n"
@@ -49,23 +56,12 @@ static int usage(const char *what) {
     return USAGE;
 }
 
-static int is_image(const uint8_t *bytes, size_t length) { return kamordast_judge_image(bytes, length) == 0; }
-static int is_table(const uint8_t *bytes, size_t length) { return kamordast_judge_table(bytes, length) == 0; }
-
 /* A number from 0 to `most`, or -1. */
 static long number_of(const char *word, long most) {
     char *end;
     errno = 0;
     long x = strtol(word, &end, 10);
     return *word < '0' || *word > '9' || *end || errno || x > most ? -1 : x;
-}
-
-/* A result in the room goes to a file. */
-static int store(const char *from, kamordast_built built, const char *name, accepts *accepted) {
-    if (built.refused) return refuse(from, built.refused);
-    write_file(name, room, built.length, accepted);
-    printf("%s: %u bytes, read back and accepted\n", name, (unsigned)built.length);
-    return DONE;
 }
 
 static int judge(const char *name) {
@@ -231,6 +227,10 @@ static int run(int count, char **words) {
     if (!strcmp(command, "--help") || !strcmp(command, "-h") || !strcmp(command, "help") || (count == 3 && !strcmp(words[2], "--help"))) {
         fputs(help, stdout);
         return DONE;
+    }
+    if (!strcmp(command, "strings")) {
+        int binary = option(&count, words, "--binary", NULL);
+        return count == 4 ? strings(words[2], words[3], binary) : usage("strings wants [--binary] LIST TABLE");
     }
     if (!strcmp(command, "judge")) return count == 3 ? judge(words[2]) : usage("judge wants FILE");
     if (!strcmp(command, "compact")) {

@@ -32,6 +32,10 @@ static const struct {
     {"a state has more than one label, and edition 1 has room for one", "it cannot go back: ask the rules desk for a table with one rule on each state, or give the image to a board that takes edition 2"},
     [25] = {"a default of the list shares fewer than two classes with its state and is not worth its hops",
             "leave such states without a default (65535), or build with compact; an image that has such defaults stays good, and rewrite takes them out"},
+    {"the word list is not 1 to 64 strings of 1 to 32 bytes, or ends too early, or has something after its end",
+     "write each string on a line of its own, as its label, one tab and 1 to 32 bytes, in 64 lines at most; of a list in bytes compare the size with the source's and fetch it anew"},
+    {"a label of the word list is 0 or stands twice", "give each string a label of its own, from 1 to 65535"},
+    {"the table of the word list would have more than 512 states", "take strings out of the list or shorten them, or make two lists and two tables of it"},
 };
 
 static int known(uint32_t number) { return number < sizeof sheet / sizeof *sheet && sheet[number].meaning; }

@@ -1,4 +1,4 @@
-/* Kamordast: rule tables compacted into images, judged, expanded, rewritten, moved across the editions, scanned and walked. Every function is proved to meet the definition paper.
+/* Kamordast: rule tables made of word lists, compacted into images, judged, expanded, rewritten, moved across the editions, scanned and walked. Every function is proved to meet the definition paper.
  *
  * A slice is a pointer and a length. The pointer is never null, not even for a length of 0, and a room overlaps no other slice. A caller that breaks this is
  * promised nothing.
@@ -14,22 +14,27 @@
 extern "C" {
 #endif
 
-/* Both formats come in two editions, and every function takes both; what compact, write, expand and rewrite make is of their input's edition, and forward and back make the other. All numbers are little-endian. A
+/* Both formats come in two editions, and every function takes both; what compact, write, expand and rewrite make is of their input's edition, forward and back make the other, and strings makes edition 2. All numbers are little-endian. A
  * table is n, k and the start state (16 bits each), 256 bytes with the class of each byte, the labels, and n rows of k next states. An image is n, k, start, depth (16 bits each) and m (32 bits),
  * the 256 classes, the labels, n records (default state or 65535, count of entries), m entries (class, next state) and a trailer of 12 bytes. The labels are, in
  *   edition 1: a label of 16 bits for each state, 0 for no rule. The first word is n, 1 to 512.
  *   edition 2: a count of 16 bits for each state, 0 to 16, and behind the counts all labels, 16 bits each, by state, rising within a state and never 0. The first word is n and 32768.
  * docs/FORMATS.md has every byte of both. A loader that knows edition 1 only refuses an image of edition 2 with 2. */
 
-/* The largest table and the largest image that there are, of either edition: a room of so many bytes is always enough for expand, and for compact, write,
- * rewrite, forward and back. */
+/* The largest table and the largest image that there are, of either edition: a room of so many bytes is always enough for expand and strings, and for compact,
+ * write, rewrite, forward and back. */
 #define KAMORDAST_LARGEST_TABLE 279814
 #define KAMORDAST_LARGEST_IMAGE 544024
 
 /* The most labels of a state: a room of 6 times so many bytes for each byte of a payload is always enough for its reports. */
 #define KAMORDAST_MOST_LABELS 16
 
-/* What compact, write, expand, rewrite, forward and back answer: 0 or the refusal's number, and the length of the result in the room. */
+/* The most strings of a word list, the longest string, and the longest list that strings takes. */
+#define KAMORDAST_MOST_STRINGS 64
+#define KAMORDAST_LONGEST_STRING 32
+#define KAMORDAST_LONGEST_LIST 2306
+
+/* What compact, write, expand, rewrite, forward, back and strings answer: 0 or the refusal's number, and the length of the result in the room. */
 typedef struct {
     uint32_t refused;
     uint32_t length;
@@ -78,6 +83,11 @@ kamordast_built kamordast_forward(const uint8_t *image, size_t image_length, uin
 /* Moves an image of edition 2 back into edition 1: an empty list becomes the label 0, a list of one its label. An image of edition 1 is refused with 20, and one in which a state has more than one label with
  * 21. Forward and then back, or back and then forward, gives the same bytes. */
 kamordast_built kamordast_back(const uint8_t *image, size_t image_length, uint8_t *room, size_t room_length);
+
+/* Makes the table of a word list, of edition 2, at the front of the room. The list is a count, 1 to 64, then for each string its label, its length, 1 to 32, and its bytes; count, label and length have 16 bits each, and nothing
+ * stands after. After any payload from the start state, which is state 0, a walk of the table stands for the longest ending of it that begins some string, and what it reports at each offset are exactly the labels of all strings
+ * that end there, rising; so does a scan of any image built of it. A list of another shape is refused with 26, a label that is 0 or stands twice with 27, more than 16 labels on a state with 19, more than 512 states with 28. */
+kamordast_built kamordast_strings(const uint8_t *list, size_t list_length, uint8_t *room, size_t room_length);
 
 /* Scans a payload from a state. A report is 6 bytes in the room: the byte's offset in this call (32 bits) and the label (16 bits). A byte that lands on a state with several labels
  * gives as many reports, in rising order. The scan stops before the first byte whose reports do not all fit, and writes none of them. */

@@ -12,7 +12,7 @@
 
 uint8_t table[LONGEST_TABLE], image[LONGEST_IMAGE], defaults[1100], wanted[LONGEST_IMAGE + 64];
 uint32_t order;
-uint64_t cases, given[26];
+uint64_t cases, given[29];
 
 /* How many results were of edition 2. */
 static uint64_t second;
@@ -25,6 +25,10 @@ void begin(uint64_t from) {
     lent_room = guard(LONGEST_IMAGE + 64);
     seed(from);
 }
+
+/* Whether the operation makes a table; and the edition of what it makes. */
+static int makes_table(enum operation o) { return o == EXPAND || o == STRINGS; }
+static uint32_t wanted_edition(enum operation o, const uint8_t *input) { return o == STRINGS ? 2 : o == FORWARD || o == BACK ? 3 - edition_in(input) : edition_in(input); }
 
 size_t compared(enum operation o, const uint8_t *input, size_t length, size_t list_length, uint32_t bound, size_t room_length) {
     uint8_t *in = at_either(&lent_input, length, cases), *list = at_either(&lent_list, list_length, cases), *room = at_either(&lent_room, room_length, cases);
@@ -51,6 +55,10 @@ size_t compared(enum operation o, const uint8_t *input, size_t length, size_t li
         right = reference_rewrite(input, length, wanted, room_length);
         answer = kamordast_rewrite(in, length, room, room_length);
         break;
+    case STRINGS:
+        right = reference_strings(input, length, wanted, room_length);
+        answer = kamordast_strings(in, length, room, room_length);
+        break;
     case BACK:
         right = reference_back(input, length, wanted, room_length);
         answer = kamordast_back(in, length, room, room_length);
@@ -68,13 +76,15 @@ size_t compared(enum operation o, const uint8_t *input, size_t length, size_t li
     if (answer.length != right.length) fail("the length differs", cases);
     if (memcmp(room, wanted, room_length)) fail("the room differs", cases);
     if (memcmp(in, input, length) || memcmp(list, defaults, list_length)) fail("a lent byte was changed", cases);
-    if (answer.length && (edition_in(room) != edition_in(input)) != (o == FORWARD || o == BACK)) fail("the result is of the wrong edition", cases);
-    if (answer.length && o != EXPAND) {
+    if (answer.length && edition_in(room) != wanted_edition(o, input)) fail("the result is of the wrong edition", cases);
+    int makes_image = !makes_table(o);
+    if (answer.length && !makes_image && kamordast_judge_table(room, answer.length)) fail("a table that was made is refused", cases);
+    if (answer.length && makes_image) {
         there_and_back(room, answer.length, cases);
         rewritten(room, answer.length, cases);
     }
     /* That takes long for an image of edition 1, so one in ten of these is shown. */
-    if (answer.length && o != EXPAND && (edition_in(room) == 2 || cases % 10 == 0)) old_loader(room, answer.length, 0, cases);
+    if (answer.length && makes_image && (edition_in(room) == 2 || cases % 10 == 0)) old_loader(room, answer.length, 0, cases);
     second += answer.length && edition_in(room) == 2;
     given[right.refused]++;
     cases++;
@@ -82,7 +92,7 @@ size_t compared(enum operation o, const uint8_t *input, size_t length, size_t li
 }
 
 size_t with_rooms(enum operation o, const uint8_t *input, size_t length, size_t list_length, uint32_t bound) {
-    size_t most = o == EXPAND ? LONGEST_TABLE : LONGEST_IMAGE, result = compared(o, input, length, list_length, bound, most);
+    size_t most = makes_table(o) ? LONGEST_TABLE : LONGEST_IMAGE, result = compared(o, input, length, list_length, bound, most);
     compared(o, input, length, list_length, bound, 0);
     if (result) {
         compared(o, input, length, list_length, bound, result);
@@ -116,7 +126,7 @@ void expect_defaults(const uint16_t *falls, const char *name) {
 void say(const char *name) {
     if (!second) fail("no result was of edition 2", cases);
     printf("%s: %llu cases agree, with %llu results of edition 2\n  given  ", name, (unsigned long long)cases, (unsigned long long)second);
-    for (int r = 0; r < 26; r++)
+    for (int r = 0; r < 29; r++)
         if (given[r]) printf(" %d:%llu", r, (unsigned long long)given[r]);
     printf("\n");
 }

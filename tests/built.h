@@ -1,4 +1,4 @@
-/* Write, expand, compact, rewrite and the moves held to the independent reading. Buffers begin or end at a guard page, by turns; every byte of every room and every lent byte is
+/* Write, expand, compact, rewrite, the moves and strings held to the independent reading. Buffers begin or end at a guard page, by turns; every byte of every room and every lent byte is
  * compared. */
 #ifndef BUILT_H
 #define BUILT_H
@@ -8,7 +8,7 @@
 
 #include "support.h"
 
-enum operation { WRITE, EXPAND, COMPACT, FORWARD, BACK, REWRITE };
+enum operation { WRITE, EXPAND, COMPACT, FORWARD, BACK, REWRITE, STRINGS };
 
 /* What is lent to the operations, and the room as the reading left it in the last case. */
 extern uint8_t table[LONGEST_TABLE], image[LONGEST_IMAGE], defaults[1100], wanted[LONGEST_IMAGE + 64];
@@ -17,12 +17,12 @@ extern uint8_t table[LONGEST_TABLE], image[LONGEST_IMAGE], defaults[1100], wante
 extern uint32_t order;
 
 /* How many cases agree, and how often each number was answered. */
-extern uint64_t cases, given[26];
+extern uint64_t cases, given[29];
 
 /* Makes the buffers and seeds the source of numbers. */
 void begin(uint64_t from);
 
-/* Runs an operation with a room of 170s and compares the answer and every byte; a result is of its input's edition, or of the other where it was moved, and one that is an image is shown to a
+/* Runs an operation with a room of 170s and compares the answer and every byte; a result is of its input's edition, or of the other where it was moved, or of edition 2 where it was made of a word list, and one that is an image is shown to a
  * loader of the first edition, goes there and back and is rewritten. Answers the result's length. */
 size_t compared(enum operation o, const uint8_t *input, size_t length, size_t list_length, uint32_t bound, size_t room_length);
 

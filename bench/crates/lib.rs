@@ -1,4 +1,4 @@
-// Four scanners of two crates behind three C functions: 0 the DFA and 1 the NFA of aho-corasick, 2 the dense and 3 the sparse DFA of regex-automata.
+// Four scanners of two crates behind four C functions: 0 the DFA and 1 the NFA of aho-corasick, 2 the dense and 3 the sparse DFA of regex-automata.
 use aho_corasick::{AhoCorasick, AhoCorasickBuilder};
 use regex_automata::{Regex, RegexBuilder, SparseDFA, DFA};
 
@@ -75,4 +75,21 @@ pub unsafe extern "C" fn crates_scan(payload: *const u8, length: usize) -> usize
         Some(Scanner::Sparse(regex)) => apart(regex, payload),
         None => 0,
     }
+}
+
+/// Finds every word of a scanner of aho-corasick; answers how many matches there are, and the sum of their marks (peers.h).
+#[no_mangle]
+#[allow(static_mut_refs, unknown_lints)]
+pub unsafe extern "C" fn crates_all(payload: *const u8, length: usize, marks: *mut u64) -> usize {
+    let payload = std::slice::from_raw_parts(payload, length);
+    let mut found = 0;
+    *marks = 0;
+    if let Some(Scanner::Words(words)) = &SCANNER {
+        for m in words.find_overlapping_iter(payload) {
+            let place = m.end() as u64 * 512 + m.pattern() as u64 + 1;
+            *marks = (*marks).wrapping_add(place.wrapping_mul(0x9E37_79B9_7F4A_7C15));
+            found += 1;
+        }
+    }
+    found
 }

@@ -31,6 +31,11 @@ reference_built reference_rewrite(const uint8_t *image, size_t length, uint8_t *
 /* An image of edition 1 into edition 2, and of edition 2 back into edition 1. */
 reference_built reference_forward(const uint8_t *image, size_t length, uint8_t *room, size_t room_length);
 reference_built reference_back(const uint8_t *image, size_t length, uint8_t *room, size_t room_length);
+/* The table of a word list (C-23). Of a list that has the shape of one: which state stands for what was read, the longest ending of the payload that begins some string; and a plain search of every string at every offset,
+ * its reports as scan writes them, by offset and rising, which answers how many there are. */
+reference_built reference_strings(const uint8_t *list, size_t length, uint8_t *room, size_t room_length);
+uint32_t reference_stands_for(const uint8_t *list, size_t length, const uint8_t *payload, size_t payload_length);
+size_t reference_search(const uint8_t *list, size_t length, const uint8_t *payload, size_t payload_length, uint8_t *reports);
 reference_scanned reference_scan(const uint8_t *image, size_t length, uint32_t state, const uint8_t *payload, size_t payload_length,
                                  uint8_t *room, size_t room_length);
 reference_scanned reference_walk(const uint8_t *table, size_t length, uint32_t state, const uint8_t *payload, size_t payload_length,

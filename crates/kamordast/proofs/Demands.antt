@@ -24,9 +24,9 @@ use Rattle.paper.specs.Roots.{pairsAt, GoesBefore}
 use Rattle.paper.specs.FallBack.{level}
 use Rattle.paper.specs.Defaults.{defaults}
 use Rattle.paper.specs.Reached.{LeadsTo, HasLevel}
-use Rattle.paper.specs.Operations.{judgeTable, judgeImage, result, Unchanged, building, compact, write, expand, rewrite, forward, back, scan, walk}
-use Rattle.paper.specs.Promises.{SameBuilt, JudgesTable, JudgesImage, Compacts, Writes, Expands, Rewrites, MovesForward, MovesBack, Scans, Walks, SameWalk}
-use Rattle.paper.specs.Sentences.{FirstOf, Ends, LongestChain, Serves, LargestHops, tableSentences, imageSentences, compactSentences, writeSentences, expandSentences, rewriteSentences, forwardSentences, backSentences, scanSentences, walkSentences}
+use Rattle.paper.specs.Operations.{judgeTable, judgeImage, result, Unchanged, building, compact, write, expand, rewrite, strings, forward, back, scan, walk}
+use Rattle.paper.specs.Promises.{SameBuilt, JudgesTable, JudgesImage, Compacts, Writes, Expands, Rewrites, Tabulates, MovesForward, MovesBack, Scans, Walks, SameWalk}
+use Rattle.paper.specs.Sentences.{FirstOf, Ends, LongestChain, Serves, LargestHops, tableSentences, imageSentences, compactSentences, writeSentences, expandSentences, rewriteSentences, stringsSentences, forwardSentences, backSentences, scanSentences, walkSentences}
 use Rattle.paper.specs.Rewrite.{kept, AllWorth}
 use Rattle.paper.specs.Follows.{ScansLike}
 use Rattle.paper.specs.Altered.{Altered}
@@ -70,6 +70,7 @@ pub refusals-exact : ((t : List ℕ) (number : ℕ) → judgeTable t ≡ number 
     × ((b room : List ℕ) (number : ℕ) → forward b room .number ≡ number ↔ FirstOf (forwardSentences b (length room)) number)
     × ((b room : List ℕ) (number : ℕ) → back b room .number ≡ number ↔ FirstOf (backSentences b (length room)) number)
     × ((b room : List ℕ) (number : ℕ) → rewrite b room .number ≡ number ↔ FirstOf (rewriteSentences b (length room)) number)
+    × ((b room : List ℕ) (number : ℕ) → strings b room .number ≡ number ↔ FirstOf (stringsSentences b (length room)) number)
     × ((b : List ℕ) (s : ℕ) (payload room : List ℕ) (number : ℕ) → scan b s payload room .number ≡ number ↔ FirstOf (scanSentences b s payload) number)
     × ((t : List ℕ) (s : ℕ) (payload room : List ℕ) (number : ℕ) → walk t s payload room .number ≡ number ↔ FirstOf (walkSentences t s payload) number)
 refusals-exact = (
@@ -81,6 +82,7 @@ refusals-exact = (
   exact.forward-exact,
   exact.back-exact,
   exact.rewrite-exact,
+  exact.strings-exact,
   exact.scan-exact,
   exact.walk-exact,
 )
@@ -92,6 +94,7 @@ pub refused-unchanged : ((t : List ℕ) (order D : ℕ) (room : List ℕ) → ¬
     × ((b room : List ℕ) → ¬ (forward b room .number ≡ 0) → Unchanged (forward b room) room)
     × ((b room : List ℕ) → ¬ (back b room .number ≡ 0) → Unchanged (back b room) room)
     × ((b room : List ℕ) → ¬ (rewrite b room .number ≡ 0) → Unchanged (rewrite b room) room)
+    × ((b room : List ℕ) → ¬ (strings b room .number ≡ 0) → Unchanged (strings b room) room)
     × ((b : List ℕ) (s : ℕ) (payload room : List ℕ) → ¬ (scan b s payload room .number ≡ 0)
     → (scan b s payload room .taken ≡ 0) × (scan b s payload room .state ≡ 0) × (scan b s payload room .reports ≡ 0) × (scan b s payload room .hops ≡ 0) × (scan b s payload room .room ≡ room))
     × ((t : List ℕ) (s : ℕ) (payload room : List ℕ) → ¬ (walk t s payload room .number ≡ 0)
@@ -103,6 +106,7 @@ refused-unchanged = (
   refusing.forward-refused,
   refusing.back-refused,
   refusing.rewrite-refused,
+  refusing.strings-refused,
   refusing.scan-refused,
   refusing.walk-refused,
 )
@@ -318,6 +322,7 @@ pub determined : ((t : List ℕ) (n n′ : ℕ) → JudgesTable t n → JudgesTa
     × ((b room : List ℕ) (n l n′ l′ : ℕ) (r r′ : List ℕ) → MovesForward b room n l r → MovesForward b room n′ l′ r′ → SameBuilt n l r n′ l′ r′)
     × ((b room : List ℕ) (n l n′ l′ : ℕ) (r r′ : List ℕ) → MovesBack b room n l r → MovesBack b room n′ l′ r′ → SameBuilt n l r n′ l′ r′)
     × ((b room : List ℕ) (n l n′ l′ : ℕ) (r r′ : List ℕ) → Rewrites b room n l r → Rewrites b room n′ l′ r′ → SameBuilt n l r n′ l′ r′)
+    × ((b room : List ℕ) (n l n′ l′ : ℕ) (r r′ : List ℕ) → Tabulates b room n l r → Tabulates b room n′ l′ r′ → SameBuilt n l r n′ l′ r′)
     × ((b : List ℕ) (s : ℕ) (payload room : List ℕ) (n t q k h n′ t′ q′ k′ h′ : ℕ) (r r′ : List ℕ)
     → Scans b s payload room n t q k h r → Scans b s payload room n′ t′ q′ k′ h′ r′ → (n ≡ n′) × (t ≡ t′) × (q ≡ q′) × (k ≡ k′) × (h ≡ h′) × (r ≡ r′))
     × ((b : List ℕ) (s : ℕ) (payload room : List ℕ) (n t q k h n′ t′ q′ k′ h′ : ℕ) (r r′ : List ℕ)
@@ -331,6 +336,7 @@ determined = (
   only.forward-determined,
   only.back-determined,
   only.rewrite-determined,
+  only.strings-determined,
   only.scan-determined,
   only.walk-determined,
 )

@@ -19,7 +19,7 @@ use Rattle.paper.specs.FallBack.{levels, towardStart}
 use Rattle.paper.specs.Defaults.{defaults}
 use Rattle.paper.specs.Scan.{scanOf, walkOf}
 use Rattle.paper.specs.Operations.{judgeTable, judgeImage, Built, listed, compacted, compactGrounds, compact, writeGrounds, write, expandGrounds, expand, rewriteGrounds, rewrite, forwardGrounds, forward, backGrounds, back, scanGrounds, scan, walkGrounds, walk}
-use Rattle.paper.specs.Cases.{T, T2, T-two, three, three3, aabbb, room, Case, right, starred, requested}
+use Rattle.paper.specs.Cases.{T, T2, T-two, three, three3, twice, aabbb, room, Case, right, starred, requested}
 use Rattle.paper.specs.Rewrite.{rewritten}
 use Rattle.paper.proofs.Below.{and-true}
 use Rattle.paper.proofs.Cases.{pick-right, cases, requests}
@@ -46,12 +46,12 @@ pub judge-T : judgeTable T ≡ 0
 judge-T = heads (pick-right 0 starred (cases .0)) .1
 
 -- Every element of a list is a byte, as a test.
-allBytes : List ℕ → Bool
+unfoldable pub allBytes : List ℕ → Bool
 allBytes [] = true
 allBytes (x ∷ xs) = ltb x 256 && allBytes xs
 
 -- What passes it are bytes.
-bytes-tested : (xs : List ℕ) → allBytes xs ≡ true → Bytes xs
+pub bytes-tested : (xs : List ℕ) → allBytes xs ≡ true → Bytes xs
 unfolding allBytes
 bytes-tested [] e i = omega arith
 bytes-tested (x ∷ xs) e zero = ltb-true x 256 (and-true (ltb x 256) (allBytes xs) e .0)
@@ -128,6 +128,10 @@ bytes-T-two = bytes-tested T-two refl
 pub bytes-three : Bytes three
 unfolding bytes16 allBytes
 bytes-three = bytes-tested three refl
+
+pub bytes-twice : Bytes twice
+unfolding bytes16 allBytes
+bytes-twice = bytes-tested twice refl
 
 pub bytes-lists : Bytes toThree × Bytes rootsOnly
 unfolding bytes16 allBytes

@@ -5,7 +5,10 @@ pub mod Transitions
 pub mod Compacted
 pub mod Fewest
 pub mod Rewritten
+pub mod StringsTold
+pub mod WordLists
 pub mod Known
 pub mod ShutOut
 pub mod ShutOutMoves
+pub mod ShutOutStrings
 pub mod Demands

@@ -59,7 +59,7 @@ module _ (b room : List ℕ) (B : Bytes b) (e : rewrite b room .number ≡ 0) wh
   pub left-accepted : judgeImage (result (rewrite b room)) ≡ 0
   left-accepted = of-left (λ r. judgeImage r ≡ 0) (trips.rewritten-accepted b B judged)
 
-  left-bytes : Bytes left
+  pub left-bytes : Bytes (result (rewrite b room))
   left-bytes = of-left Bytes (trips.rewritten-bytes b B judged)
 
   -- It keeps the edition.

@@ -13,6 +13,7 @@ pub use moves::forward;
 pub use rewrite::rewrite;
 pub use scan::scan;
 pub use table::judge_table;
+pub use tabulate::strings;
 pub use view::Counts;
 pub use view::View;
 pub use view::counted;
@@ -21,7 +22,7 @@ pub use view::open;
 pub use view::record_from;
 pub use view::record_of;
 pub use walk::walk;
-ghost use Rattle.paper.specs.Promises.{JudgesTable, JudgesImage, Writes, Compacts, Expands, Rewrites, MovesForward, MovesBack, Scans, Walks};
+ghost use Rattle.paper.specs.Promises.{JudgesTable, JudgesImage, Writes, Compacts, Expands, Rewrites, Tabulates, MovesForward, MovesBack, Scans, Walks};
 
 // Judges a plain table: 0, or the refusal's number.
 #[no_mangle]
@@ -98,6 +99,14 @@ pub extern "C" fn kamordast_rewrite(image: &[u8], room: &mut [u8]) -> Built
     ensures { λ r. ⌜ Rewrites (now (image .entry)) (now (room .entry)) (r .refused) (r .length) (now (room .exit)) ⌝ }
 {
     rewrite::rewrite(image, room)
+}
+
+// Writes the table of a word list at the front of the room.
+#[no_mangle]
+pub extern "C" fn kamordast_strings(list: &[u8], room: &mut [u8]) -> Built
+    ensures { λ r. ⌜ Tabulates (now (list .entry)) (now (room .entry)) (r .refused) (r .length) (now (room .exit)) ⌝ }
+{
+    tabulate::strings(list, room)
 }
 
 // Scans a payload from a state and writes its reports at the front of the room.

@@ -10,8 +10,8 @@ use Rattle.paper.specs.Labels.{Edition, one, two, firstWord}
 use Rattle.paper.specs.Table as table
 use Rattle.paper.specs.View.{View}
 use Rattle.paper.specs.Image as image
-use Rattle.paper.specs.Image.{imageLength}
-use Rattle.paper.specs.Results.{defaultNumber, labelNumber, labelBytes, recordBytes, entryBytes, front, trailer, parts, imageOfView, tableView, imageOf, tableFrom, tableOf}
+use Rattle.paper.specs.Image.{imageLength, imageView}
+use Rattle.paper.specs.Results.{defaultNumber, labelNumber, labelBytes, recordBytes, entryBytes, front, trailer, parts, imageOfView, tableView, imageOf, moved, tableFrom, tableOf}
 
 -- A part of bytes only.
 record Part (b : List ℕ) : Type 0 where
@@ -69,6 +69,10 @@ table-part e n k start classOf labels next h =
     then-part (part16 (firstWord e n)) (then-part (part16 k) (then-part (part16 start) (then-part (list-part 256 classOf h)
     (then-part (labels-part e n labels) (each-part n (λ s. each-part k (λ c. part16 (next s c))))))))
 
+-- A table made of any numbers is bytes, where the classes are.
+pub table-from-bytes : (e : Edition) (n k start : ℕ) (classOf : ℕ → ℕ) (labels : ℕ → List ℕ) (next : ℕ → ℕ → ℕ) → ((x : ℕ) → classOf x < 256) → Bytes (tableFrom e n k start classOf labels next)
+table-from-bytes e n k start classOf labels next h = table-part e n k start classOf labels next h .are
+
 -- The parts of an image whose classes are bytes.
 module _ (e : Edition) (v : View) (start : ℕ) (classOf : ℕ → ℕ) (labels : ℕ → List ℕ) (h : (x : ℕ) → classOf x < 256) where
   front-part : (n k start depth m : ℕ) → Part (front e n k start depth m)
@@ -106,3 +110,8 @@ image-of-bytes t default B = image-part (table.edition t) (tableView t default) 
 pub table-of-bytes : (b : List ℕ) → Bytes b → Bytes (tableOf b)
 unfolding tableOf
 table-of-bytes b B = table-part (image.edition b) (image.states b) (image.classes b) (image.start b) (image.classOf b) (image.labels b) _ (λ x. B (12 + x)) .are
+
+-- An image in another edition is bytes.
+pub moved-bytes : (e : Edition) (b : List ℕ) → Bytes b → Bytes (moved e b)
+unfolding moved
+moved-bytes e b B = image-part e (imageView b) (image.start b) (image.classOf b) (image.labels b) (λ x. B (12 + x)) .are

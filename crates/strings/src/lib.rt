@@ -1,0 +1,1 @@
+// Laws of word lists alone: there is no code here.

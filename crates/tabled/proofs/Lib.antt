@@ -1,0 +1,2 @@
+pub mod Assembled
+pub mod Ways
