@@ -47,6 +47,14 @@ static kamordast_built written(const uint8_t *sound, size_t length, const uint8_
     return IN_EDITION(image, sound, length)(sound, length, falls, &chains, room, ROOM);
 }
 
+/* Reduce of a table, with its labels made few so that some states are alike; in C an accepted table is taken. */
+static void same_reduced(size_t length, size_t room_length, uint32_t number) {
+    uint32_t refused = IN_EDITION(judge_table, table, length)(table, length);
+    if (!refused && edition_in(table) == 1)
+        for (uint32_t s = 0; s < states_in(table); s++) set16(table, 262 + 2 * s, number16(table, 262 + 2 * s) % 2);
+    same("reduce", kamordast_reduce(table, length, by_archive, room_length), refused ? (kamordast_built){refused, 0} : plain_reduce(table, length, by_c, room_length), number);
+}
+
 /* Strings of a word list of a few letters, which may be cut, have wrong labels or counts. */
 static void same_strings(size_t room_length, uint32_t number) {
     uint32_t count = below(20), letters = 1 + below(3);
@@ -86,6 +94,7 @@ int main(void) {
         memset(by_c, 0, ROOM);
         same("judge a table", (kamordast_built){kamordast_judge_table(table, length), 0}, (kamordast_built){IN_EDITION(judge_table, table, length)(table, length), 0}, number);
         same_strings(room_length, number);
+        same_reduced(length, room_length, number);
         for (uint32_t order = 0; order <= 4; order++)
             same("compact", kamordast_compact_in_order(table, length, order, (uint16_t)bound, by_archive, room_length),
                  IN_EDITION(compact, table, length)(table, length, order, bound, number % 2, by_c, room_length), number);

@@ -27,6 +27,11 @@ void use_levels(uint32_t bound);
 void use_listed_words(uint32_t k);
 void use_overlapping_strings(void);
 
+/* Tables to reduce, all of 512 states and 256 classes but the first: the table of the word list of k classes, eight labels shared by all words, by their first letters; a table of 128 states four times over; a chain that splits one by one. */
+void use_shared_labels(uint32_t k);
+void use_fourfold(void);
+void use_splitting_chain(void);
+
 /* The image at hand moved into edition 2, with at most one label on a state. */
 void use_forward(void);
 

@@ -170,6 +170,22 @@ static void strings_rows(const operation *o) {
     row(o);
 }
 
+/* Reduce of both word lists as they are and with shared labels, of the largest tables of random rows in both editions, of one four times over and of the chain that splits one by one. */
+static void reduce_rows(const operation *o) {
+    word_rows(o, 2);
+    for (uint32_t k = 27; k <= 209; k += 182) {
+        use_shared_labels(k);
+        row(o);
+    }
+    random_row(o);
+    use_full_lists(3);
+    row(o);
+    use_fourfold();
+    row(o);
+    use_splitting_chain();
+    row(o);
+}
+
 int main(void) {
     word_rows(&judging_a_table, 2);
     random_row(&judging_a_table);
@@ -193,6 +209,8 @@ int main(void) {
     random_row(&expand);
     strings_rows(&strings_of_a_list);
     strings_rows(&strings_linking);
+    reduce_rows(&reduce);
+    reduce_rows(&reduce_with_judging);
     rewrite_rows(&rewrite);
     rewrite_rows(&rewrite_with_judging);
     move_rows(&forward, 0);

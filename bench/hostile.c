@@ -51,3 +51,13 @@ size_t make_detour(uint8_t *table, uint8_t *defaults, uint8_t *asked) {
         if (table[6 + x] == k - 1) *asked = (uint8_t)x;
     return length;
 }
+
+size_t make_splitting(uint8_t *table) {
+    uint8_t defaults[1024];
+    size_t length = begin(table, defaults, 0);
+    set16(table, 4, 0);
+    set16(table, 262 + 2 * (n - 1), 7);
+    for (uint32_t s = 0; s < n; s++)
+        for (uint32_t c = 0; c < k; c++) set16(table, place_of(s, c), c + 1 < k ? 0 : s + 1 < n ? s + 1 : s);
+    return length;
+}

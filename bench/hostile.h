@@ -18,4 +18,7 @@ size_t make_chain(uint8_t *table, uint8_t *defaults);
 /* One chain of states that store every class but one, and the byte of that one: 511 hops for each such byte, from state 511. */
 size_t make_detour(uint8_t *table, uint8_t *defaults, uint8_t *asked);
 
+/* A chain of 512 states to reduce: each leads to the next by the last class and to the first by all others, and only the last has a label, so that each round splits off one state. Answers the table's length. */
+size_t make_splitting(uint8_t *table);
+
 #endif

@@ -46,6 +46,14 @@ static void strings_archive(void) { by_archive.numbers = built(kamordast_strings
 static void strings_c(void) { by_c.numbers = built(plain_strings(LIST, 0, ROOM(by_c))); }
 static void strings_c_linking(void) { by_c.numbers = built(plain_strings(LIST, 1, ROOM(by_c))); }
 
+static void reduce_archive(void) { by_archive.numbers = built(kamordast_reduce(TABLE, ROOM(by_archive))); }
+static void reduce_c(void) { by_c.numbers = built(plain_reduce(TABLE, ROOM(by_c))); }
+
+static void judge_and_reduce_c(void) {
+    uint32_t refused = states_in(given.table) == number16(given.table, 0) ? plain_judge_table(TABLE) : plain_second_judge_table(TABLE);
+    by_c.numbers = refused ? answered(refused) : built(plain_reduce(TABLE, ROOM(by_c)));
+}
+
 static void rewrite_archive(void) { by_archive.numbers = built(kamordast_rewrite(IMAGE, ROOM(by_archive))); }
 static void rewrite_c(void) { by_c.numbers = built(plain_rewrite(IMAGE, ROOM(by_c))); }
 
@@ -117,6 +125,8 @@ const operation write_with_a_list = {"write", write_archive, write_c, NULL, 0};
 const operation expand = {"expand", expand_archive, expand_c, NULL, 0};
 const operation strings_of_a_list = {"strings", strings_archive, strings_c, NULL, 1};
 const operation strings_linking = {"strings, C linking", strings_archive, strings_c_linking, NULL, 1};
+const operation reduce = {"reduce, no judging", reduce_archive, reduce_c, judge_table_archive, 1};
+const operation reduce_with_judging = {"reduce", reduce_archive, judge_and_reduce_c, NULL, 1};
 const operation rewrite = {"rewrite, no judging", rewrite_archive, rewrite_c, judge_image_archive, 0};
 const operation rewrite_with_judging = {"rewrite", rewrite_archive, judge_and_rewrite_c, NULL, 0};
 const operation forward = {"forward, no judging", forward_archive, forward_c, judge_image_archive, 0};

@@ -30,7 +30,7 @@ typedef struct {
 
 extern const operation judging_a_table, judging_an_image, compact, compact_seeking, compact_bgs, compact_ref, compact_toward, compact_toward_sparing;
 extern const operation write_with_a_list, expand, scan, scan_with_judging, walk, walk_with_judging;
-extern const operation strings_of_a_list, strings_linking, rewrite, rewrite_with_judging, forward, forward_with_judging, back, back_with_judging;
+extern const operation strings_of_a_list, strings_linking, reduce, reduce_with_judging, rewrite, rewrite_with_judging, forward, forward_with_judging, back, back_with_judging;
 
 /* The same on inputs of edition 2: of the archive the same functions, of plain C those of that edition. */
 extern const operation second_judging_a_table, second_judging_an_image, second_compact, second_write, second_expand;

@@ -1,5 +1,5 @@
 /* What the proved code is measured against: the same work in C, tuned by hand. Each operation answers as the archive's does, on acceptance and refusal
- * alike; only scan, walk, rewrite and the moves take what was judged before. An operation of edition 1 knows that edition alone, so that it is compiled as it was before there was another; where edition 2
+ * alike; only scan, walk, rewrite, reduce and the moves take what was judged before. An operation of edition 1 knows that edition alone, so that it is compiled as it was before there was another; where edition 2
  * asks for other code it has a function of its own, `plain_second_...`. */
 #ifndef PLAIN_H
 #define PLAIN_H
@@ -104,6 +104,9 @@ kamordast_built plain_rewrite(const uint8_t *image, size_t length, uint8_t *room
 
 /* The table of a word list. `linking` tells how labels and 19 are found (plain_strings.c). */
 kamordast_built plain_strings(const uint8_t *list, size_t length, int linking, uint8_t *room, size_t room_length);
+
+/* An accepted table of either edition without the states that no payload reaches or tells apart from another. */
+kamordast_built plain_reduce(const uint8_t *table, size_t length, uint8_t *room, size_t room_length);
 
 /* The walk of a payload through an accepted image. */
 kamordast_scanned plain_scan(const uint8_t *image, size_t length, uint32_t state, const uint8_t *payload, size_t bytes, uint8_t *room, size_t room_length);

@@ -1,9 +1,10 @@
-/* The cases that are tables without an image: word lists for strings. */
+/* The cases that are tables without an image: word lists for strings, and tables to reduce. */
 #include "cases.h"
 
 #include <stdio.h>
 #include <string.h>
 
+#include "hostile.h"
 #include "operations.h"
 #include "word_list.h"
 
@@ -55,4 +56,31 @@ void use_overlapping_strings(void) {
         add_string(bytes, i < 47 ? 32 : 31);
     }
     use_table_of_list("hostile: 64 strings");
+}
+
+void use_shared_labels(uint32_t k) {
+    given.table_length = make_word_list(&words, k, given.table);
+    for (uint32_t s = 0; s < states_in(given.table); s++) {
+        uint32_t word = number16(given.table, 262 + 2 * s);
+        if (word) set16(given.table, 262 + 2 * s, words.words[word - 1][0] % 8u + 1);
+    }
+    name_table("words, 8 labels");
+}
+
+void use_fourfold(void) {
+    const uint32_t n = 512, k = 256, single = n / 4;
+    static uint8_t once[LONGEST_TABLE];
+    seed(7);
+    make_table(once, single, k, 100);
+    given.table_length = make_table(given.table, n, k, 0);
+    for (uint32_t s = 0; s < n; s++) {
+        set16(given.table, 262 + 2 * s, s % single % 3);
+        for (uint32_t c = 0; c < k; c++) set16(given.table, 262 + 2 * n + 2 * (s * k + c), number16(once, 262 + 2 * single + 2 * (s % single * k + c)) + single * below(4));
+    }
+    name_table("four times over");
+}
+
+void use_splitting_chain(void) {
+    given.table_length = make_splitting(given.table);
+    name_table("hostile: a chain");
 }

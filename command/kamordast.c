@@ -19,6 +19,7 @@ static const char help[] =
     "usage: kamordast COMMAND ...\n"
     "\n"
     "  strings [--binary] LIST TABLE  the table of a word list: a line for each string, which is its label, one tab and the string; --binary: bytes as in docs/FORMATS.md\n"
+    "  reduce TABLE TABLE             the first without states that no payload reaches or tells apart from another; says how many and what it saves\n"
     "  judge FILE                     is FILE an image, or a table? of what size and edition, with how many labels?\n"
     "  compact [--order N] TABLE BOUND IMAGE\n"
     "                                 the image of TABLE with path bound BOUND, 0 to 65535\n"
@@ -41,6 +42,7 @@ static const char help[] =
     "Example: kamordast strings examples/endings.list endings.table\n"
     "Example: kamordast compact endings.table 2 endings.image\n"
     "Example: kamordast scan endings.image README.md\n"
+    "Example: kamordast reduce endings.table reduced.table\n"
     "Example: kamordast compact --order 3 examples/words.table 0 words.image\n"
     "Example: kamordast served --sort words.image README.md\n"
     "Example: kamordast walk examples/words.table README.md\n"
@@ -232,6 +234,7 @@ static int run(int count, char **words) {
         int binary = option(&count, words, "--binary", NULL);
         return count == 4 ? strings(words[2], words[3], binary) : usage("strings wants [--binary] LIST TABLE");
     }
+    if (!strcmp(command, "reduce")) return count == 4 ? reduce(words[2], words[3]) : usage("reduce wants TABLE TABLE");
     if (!strcmp(command, "judge")) return count == 3 ? judge(words[2]) : usage("judge wants FILE");
     if (!strcmp(command, "compact")) {
         const char *order = "0";

@@ -40,3 +40,36 @@ int strings(const char *from, const char *to, int binary) {
     if (status == DONE) printf("%u strings, %u states and %u classes\n", (unsigned)number16(list, 0), (unsigned)states_of(room), (unsigned)number16(room, 2));
     return status;
 }
+
+/* How many states of an accepted table payloads reach from its start state. */
+static uint32_t reached_in(const uint8_t *table, size_t length) {
+    uint32_t n = states_of(table), k = number16(table, 2), count = 1;
+    uint16_t found[512] = {(uint16_t)number16(table, 4)};
+    uint8_t seen[512] = {0};
+    seen[found[0]] = 1;
+    for (uint32_t i = 0; i < count; i++)
+        for (uint32_t c = 0; c < k; c++) {
+            uint32_t to = number16(table, length - 2 * (size_t)n * k + 2 * ((size_t)found[i] * k + c));
+            if (!seen[to]) found[count++] = (uint16_t)to;
+            seen[to] = 1;
+        }
+    return count;
+}
+
+/* The length of a table's image with bound 2 in order 0. */
+static uint32_t image_length(const uint8_t *table, size_t length) {
+    static uint8_t image[LONGEST_IMAGE];
+    return kamordast_compact(table, length, 2, image, sizeof image).length;
+}
+
+int reduce(const char *from, const char *to) {
+    static uint8_t table[LONGEST_TABLE + 2];
+    size_t length = read_file(from, table, LONGEST_TABLE);
+    kamordast_built built = kamordast_reduce(table, length, room, sizeof room);
+    int status = store(from, built, to, is_table);
+    if (status != DONE) return status;
+    uint32_t n = states_of(table), reached = reached_in(table, length), left = states_of(room);
+    printf("of %u states %u were unreachable and %u merged, %u are left; table %zu to %u bytes, image with bound 2 %u to %u\n", (unsigned)n, (unsigned)(n - reached), (unsigned)(reached - left), (unsigned)left,
+           length, (unsigned)built.length, (unsigned)image_length(table, length), (unsigned)image_length(room, built.length));
+    return DONE;
+}

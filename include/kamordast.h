@@ -1,4 +1,4 @@
-/* Kamordast: rule tables made of word lists, compacted into images, judged, expanded, rewritten, moved across the editions, scanned and walked. Every function is proved to meet the definition paper.
+/* Kamordast: rule tables made of word lists and reduced, compacted into images, judged, expanded, rewritten, moved across the editions, scanned and walked. Every function is proved to meet the definition paper.
  *
  * A slice is a pointer and a length. The pointer is never null, not even for a length of 0, and a room overlaps no other slice. A caller that breaks this is
  * promised nothing.
@@ -14,15 +14,15 @@
 extern "C" {
 #endif
 
-/* Both formats come in two editions, and every function takes both; what compact, write, expand and rewrite make is of their input's edition, forward and back make the other, and strings makes edition 2. All numbers are little-endian. A
+/* Both formats come in two editions, and every function takes both; what compact, write, expand, rewrite and reduce make is of their input's edition, forward and back make the other, and strings makes edition 2. All numbers are little-endian. A
  * table is n, k and the start state (16 bits each), 256 bytes with the class of each byte, the labels, and n rows of k next states. An image is n, k, start, depth (16 bits each) and m (32 bits),
  * the 256 classes, the labels, n records (default state or 65535, count of entries), m entries (class, next state) and a trailer of 12 bytes. The labels are, in
  *   edition 1: a label of 16 bits for each state, 0 for no rule. The first word is n, 1 to 512.
  *   edition 2: a count of 16 bits for each state, 0 to 16, and behind the counts all labels, 16 bits each, by state, rising within a state and never 0. The first word is n and 32768.
  * docs/FORMATS.md has every byte of both. A loader that knows edition 1 only refuses an image of edition 2 with 2. */
 
-/* The largest table and the largest image that there are, of either edition: a room of so many bytes is always enough for expand and strings, and for compact,
- * write, rewrite, forward and back. */
+/* The largest table and the largest image that there are, of either edition: a room of so many bytes is always enough for expand, strings and reduce, and for
+ * compact, write, rewrite, forward and back. */
 #define KAMORDAST_LARGEST_TABLE 279814
 #define KAMORDAST_LARGEST_IMAGE 544024
 
@@ -34,7 +34,7 @@ extern "C" {
 #define KAMORDAST_LONGEST_STRING 32
 #define KAMORDAST_LONGEST_LIST 2306
 
-/* What compact, write, expand, rewrite, forward, back and strings answer: 0 or the refusal's number, and the length of the result in the room. */
+/* What compact, write, expand, rewrite, forward, back, strings and reduce answer: 0 or the refusal's number, and the length of the result in the room. */
 typedef struct {
     uint32_t refused;
     uint32_t length;
@@ -88,6 +88,10 @@ kamordast_built kamordast_back(const uint8_t *image, size_t image_length, uint8_
  * stands after. After any payload from the start state, which is state 0, a walk of the table stands for the longest ending of it that begins some string, and what it reports at each offset are exactly the labels of all strings
  * that end there, rising; so does a scan of any image built of it. A list of another shape is refused with 26, a label that is 0 or stands twice with 27, more than 16 labels on a state with 19, more than 512 states with 28. */
 kamordast_built kamordast_strings(const uint8_t *list, size_t list_length, uint8_t *room, size_t room_length);
+
+/* Reduces a table, at the front of the room: states that no payload reaches from the start state go, and of states that no payload tells apart the smallest stays. The start state's labels and the reports from it stay the
+ * same for every payload, and no table with the same classes, start labels and reports has fewer states. States are numbered anew; classes, and whether it is of edition 1 or 2, stay. */
+kamordast_built kamordast_reduce(const uint8_t *table, size_t table_length, uint8_t *room, size_t room_length);
 
 /* Scans a payload from a state. A report is 6 bytes in the room: the byte's offset in this call (32 bits) and the label (16 bits). A byte that lands on a state with several labels
  * gives as many reports, in rising order. The scan stops before the first byte whose reports do not all fit, and writes none of them. */

@@ -27,7 +27,7 @@ void begin(uint64_t from) {
 }
 
 /* Whether the operation makes a table; and the edition of what it makes. */
-static int makes_table(enum operation o) { return o == EXPAND || o == STRINGS; }
+static int makes_table(enum operation o) { return o == EXPAND || o == STRINGS || o == REDUCE; }
 static uint32_t wanted_edition(enum operation o, const uint8_t *input) { return o == STRINGS ? 2 : o == FORWARD || o == BACK ? 3 - edition_in(input) : edition_in(input); }
 
 size_t compared(enum operation o, const uint8_t *input, size_t length, size_t list_length, uint32_t bound, size_t room_length) {
@@ -58,6 +58,10 @@ size_t compared(enum operation o, const uint8_t *input, size_t length, size_t li
     case STRINGS:
         right = reference_strings(input, length, wanted, room_length);
         answer = kamordast_strings(in, length, room, room_length);
+        break;
+    case REDUCE:
+        right = reference_reduce(input, length, wanted, room_length);
+        answer = kamordast_reduce(in, length, room, room_length);
         break;
     case BACK:
         right = reference_back(input, length, wanted, room_length);

@@ -1,4 +1,4 @@
-/* Write, expand, compact, rewrite, the moves and strings held to the independent reading. Buffers begin or end at a guard page, by turns; every byte of every room and every lent byte is
+/* Write, expand, compact, rewrite, the moves, strings and reduce held to the independent reading. Buffers begin or end at a guard page, by turns; every byte of every room and every lent byte is
  * compared. */
 #ifndef BUILT_H
 #define BUILT_H
@@ -8,7 +8,7 @@
 
 #include "support.h"
 
-enum operation { WRITE, EXPAND, COMPACT, FORWARD, BACK, REWRITE, STRINGS };
+enum operation { WRITE, EXPAND, COMPACT, FORWARD, BACK, REWRITE, STRINGS, REDUCE };
 
 /* What is lent to the operations, and the room as the reading left it in the last case. */
 extern uint8_t table[LONGEST_TABLE], image[LONGEST_IMAGE], defaults[1100], wanted[LONGEST_IMAGE + 64];

@@ -36,6 +36,10 @@ reference_built reference_back(const uint8_t *image, size_t length, uint8_t *roo
 reference_built reference_strings(const uint8_t *list, size_t length, uint8_t *room, size_t room_length);
 uint32_t reference_stands_for(const uint8_t *list, size_t length, const uint8_t *payload, size_t payload_length);
 size_t reference_search(const uint8_t *list, size_t length, const uint8_t *payload, size_t payload_length, uint8_t *reports);
+/* The table without the states that are not reached, and of those that no payload tells apart the smallest only (C-24). Whether two accepted tables over the same classes have the same labels at their start states and the
+ * same reports from there for every payload. */
+reference_built reference_reduce(const uint8_t *table, size_t length, uint8_t *room, size_t room_length);
+int reference_same_reports(const uint8_t *table, const uint8_t *other);
 reference_scanned reference_scan(const uint8_t *image, size_t length, uint32_t state, const uint8_t *payload, size_t payload_length,
                                  uint8_t *room, size_t room_length);
 reference_scanned reference_walk(const uint8_t *table, size_t length, uint32_t state, const uint8_t *payload, size_t payload_length,

@@ -24,10 +24,11 @@ use Rattle.paper.specs.Roots.{pairsAt, GoesBefore}
 use Rattle.paper.specs.FallBack.{level}
 use Rattle.paper.specs.Defaults.{defaults}
 use Rattle.paper.specs.Reached.{LeadsTo, HasLevel}
-use Rattle.paper.specs.Operations.{judgeTable, judgeImage, result, Unchanged, building, compact, write, expand, rewrite, strings, forward, back, scan, walk}
-use Rattle.paper.specs.Promises.{SameBuilt, JudgesTable, JudgesImage, Compacts, Writes, Expands, Rewrites, Tabulates, MovesForward, MovesBack, Scans, Walks, SameWalk}
-use Rattle.paper.specs.Sentences.{FirstOf, Ends, LongestChain, Serves, LargestHops, tableSentences, imageSentences, compactSentences, writeSentences, expandSentences, rewriteSentences, stringsSentences, forwardSentences, backSentences, scanSentences, walkSentences}
+use Rattle.paper.specs.Operations.{judgeTable, judgeImage, result, Unchanged, building, compact, write, expand, rewrite, strings, reduce, forward, back, scan, walk}
+use Rattle.paper.specs.Promises.{SameBuilt, JudgesTable, JudgesImage, Compacts, Writes, Expands, Rewrites, Tabulates, Reduces, MovesForward, MovesBack, Scans, Walks, SameWalk}
+use Rattle.paper.specs.Sentences.{FirstOf, Ends, LongestChain, Serves, LargestHops, tableSentences, imageSentences, compactSentences, writeSentences, expandSentences, rewriteSentences, stringsSentences, reduceSentences, forwardSentences, backSentences, scanSentences, walkSentences}
 use Rattle.paper.specs.Rewrite.{kept, AllWorth}
+use Rattle.paper.specs.Wakes.{TableWakes, ImageWakes}
 use Rattle.paper.specs.Follows.{ScansLike}
 use Rattle.paper.specs.Altered.{Altered}
 use Rattle.paper.specs.Cases.{built, right, room, starred, requested, three}
@@ -60,6 +61,7 @@ use Rattle.kamordast.proofs.Left as left
 use Rattle.kamordast.proofs.Compacted as compacted
 use Rattle.kamordast.proofs.Fewest as least
 use Rattle.kamordast.proofs.Rewritten as rewritten
+use Rattle.kamordast.proofs.Wakes as links
 
 -- Each operation's number is that of the first of its sentences that holds, 0 where none does.
 pub refusals-exact : ((t : List ℕ) (number : ℕ) → judgeTable t ≡ number ↔ FirstOf (tableSentences t) number)
@@ -71,6 +73,7 @@ pub refusals-exact : ((t : List ℕ) (number : ℕ) → judgeTable t ≡ number 
     × ((b room : List ℕ) (number : ℕ) → back b room .number ≡ number ↔ FirstOf (backSentences b (length room)) number)
     × ((b room : List ℕ) (number : ℕ) → rewrite b room .number ≡ number ↔ FirstOf (rewriteSentences b (length room)) number)
     × ((b room : List ℕ) (number : ℕ) → strings b room .number ≡ number ↔ FirstOf (stringsSentences b (length room)) number)
+    × ((t room : List ℕ) (number : ℕ) → reduce t room .number ≡ number ↔ FirstOf (reduceSentences t (length room)) number)
     × ((b : List ℕ) (s : ℕ) (payload room : List ℕ) (number : ℕ) → scan b s payload room .number ≡ number ↔ FirstOf (scanSentences b s payload) number)
     × ((t : List ℕ) (s : ℕ) (payload room : List ℕ) (number : ℕ) → walk t s payload room .number ≡ number ↔ FirstOf (walkSentences t s payload) number)
 refusals-exact = (
@@ -83,6 +86,7 @@ refusals-exact = (
   exact.back-exact,
   exact.rewrite-exact,
   exact.strings-exact,
+  exact.reduce-exact,
   exact.scan-exact,
   exact.walk-exact,
 )
@@ -95,6 +99,7 @@ pub refused-unchanged : ((t : List ℕ) (order D : ℕ) (room : List ℕ) → ¬
     × ((b room : List ℕ) → ¬ (back b room .number ≡ 0) → Unchanged (back b room) room)
     × ((b room : List ℕ) → ¬ (rewrite b room .number ≡ 0) → Unchanged (rewrite b room) room)
     × ((b room : List ℕ) → ¬ (strings b room .number ≡ 0) → Unchanged (strings b room) room)
+    × ((t room : List ℕ) → ¬ (reduce t room .number ≡ 0) → Unchanged (reduce t room) room)
     × ((b : List ℕ) (s : ℕ) (payload room : List ℕ) → ¬ (scan b s payload room .number ≡ 0)
     → (scan b s payload room .taken ≡ 0) × (scan b s payload room .state ≡ 0) × (scan b s payload room .reports ≡ 0) × (scan b s payload room .hops ≡ 0) × (scan b s payload room .room ≡ room))
     × ((t : List ℕ) (s : ℕ) (payload room : List ℕ) → ¬ (walk t s payload room .number ≡ 0)
@@ -107,6 +112,7 @@ refused-unchanged = (
   refusing.back-refused,
   refusing.rewrite-refused,
   refusing.strings-refused,
+  refusing.reduce-refused,
   refusing.scan-refused,
   refusing.walk-refused,
 )
@@ -226,6 +232,28 @@ pub walk-same : ((b : List ℕ) → Bytes b → judgeImage b ≡ 0 → (s : ℕ)
     × ((t : List ℕ) (s : ℕ) (payload room : List ℕ) → walk t s payload room .hops ≡ 0)
 walk-same = (scanned.accepted-walks, left.of-compact scanned.SameWalks scanned.accepted-walks, left.of-write scanned.SameWalks scanned.accepted-walks, hopless.walk-hops)
 
+-- The whole way, from a word list to the wakes of the host: what strings leaves tells, from its start state, exactly the strings of the list that end at each byte; and so does what is made of it by any steps, in any number and order:
+-- reduce; compact in any order with any bound, and write with any list; expand; forward, back and rewrite. Each link asks only that its operation accepts.
+pub wakes : (list : List ℕ)
+    → ((room : List ℕ) → Bytes list → strings list room .number ≡ 0 → TableWakes list (result (strings list room)))
+    × ((t room : List ℕ) → reduce t room .number ≡ 0 → TableWakes list t → TableWakes list (result (reduce t room)))
+    × ((t : List ℕ) (order D : ℕ) (room : List ℕ) → compact t order D room .number ≡ 0 → TableWakes list t → ImageWakes list (result (compact t order D room)))
+    × ((t ds room : List ℕ) → write t ds room .number ≡ 0 → TableWakes list t → ImageWakes list (result (write t ds room)))
+    × ((b room : List ℕ) → expand b room .number ≡ 0 → ImageWakes list b → TableWakes list (result (expand b room)))
+    × ((b room : List ℕ) → forward b room .number ≡ 0 → ImageWakes list b → ImageWakes list (result (forward b room)))
+    × ((b room : List ℕ) → back b room .number ≡ 0 → ImageWakes list b → ImageWakes list (result (back b room)))
+    × ((b room : List ℕ) → rewrite b room .number ≡ 0 → ImageWakes list b → ImageWakes list (result (rewrite b room)))
+wakes list = (
+  links.strings-wakes list,
+  links.reduce-wakes list,
+  links.compact-wakes list,
+  links.write-wakes list,
+  links.expand-wakes list,
+  links.forward-wakes list,
+  links.back-wakes list,
+  links.rewrite-wakes list,
+)
+
 -- What the look-up finds for a state and a byte is what the chain gives: so many steps on stands the server, the first state that stores the class.
 pub look-served : (b : List ℕ) → judgeImage b ≡ 0 → (s x : ℕ) → s < image.states b → x < 256
     → let f = look (imageView b) s (image.classOf b x) in
@@ -323,6 +351,7 @@ pub determined : ((t : List ℕ) (n n′ : ℕ) → JudgesTable t n → JudgesTa
     × ((b room : List ℕ) (n l n′ l′ : ℕ) (r r′ : List ℕ) → MovesBack b room n l r → MovesBack b room n′ l′ r′ → SameBuilt n l r n′ l′ r′)
     × ((b room : List ℕ) (n l n′ l′ : ℕ) (r r′ : List ℕ) → Rewrites b room n l r → Rewrites b room n′ l′ r′ → SameBuilt n l r n′ l′ r′)
     × ((b room : List ℕ) (n l n′ l′ : ℕ) (r r′ : List ℕ) → Tabulates b room n l r → Tabulates b room n′ l′ r′ → SameBuilt n l r n′ l′ r′)
+    × ((t room : List ℕ) (n l n′ l′ : ℕ) (r r′ : List ℕ) → Reduces t room n l r → Reduces t room n′ l′ r′ → SameBuilt n l r n′ l′ r′)
     × ((b : List ℕ) (s : ℕ) (payload room : List ℕ) (n t q k h n′ t′ q′ k′ h′ : ℕ) (r r′ : List ℕ)
     → Scans b s payload room n t q k h r → Scans b s payload room n′ t′ q′ k′ h′ r′ → (n ≡ n′) × (t ≡ t′) × (q ≡ q′) × (k ≡ k′) × (h ≡ h′) × (r ≡ r′))
     × ((b : List ℕ) (s : ℕ) (payload room : List ℕ) (n t q k h n′ t′ q′ k′ h′ : ℕ) (r r′ : List ℕ)
@@ -337,6 +366,7 @@ determined = (
   only.back-determined,
   only.rewrite-determined,
   only.strings-determined,
+  only.reduce-determined,
   only.scan-determined,
   only.walk-determined,
 )

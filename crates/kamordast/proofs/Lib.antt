@@ -7,8 +7,11 @@ pub mod Fewest
 pub mod Rewritten
 pub mod StringsTold
 pub mod WordLists
+pub mod Reduction
+pub mod Wakes
 pub mod Known
 pub mod ShutOut
 pub mod ShutOutMoves
+pub mod ShutOutReduce
 pub mod ShutOutStrings
 pub mod Demands

@@ -10,6 +10,7 @@ pub use image::Record;
 pub use judge::judge_image;
 pub use moves::back;
 pub use moves::forward;
+pub use reduce::reduce;
 pub use rewrite::rewrite;
 pub use scan::scan;
 pub use table::judge_table;
@@ -22,7 +23,7 @@ pub use view::open;
 pub use view::record_from;
 pub use view::record_of;
 pub use walk::walk;
-ghost use Rattle.paper.specs.Promises.{JudgesTable, JudgesImage, Writes, Compacts, Expands, Rewrites, Tabulates, MovesForward, MovesBack, Scans, Walks};
+ghost use Rattle.paper.specs.Promises.{JudgesTable, JudgesImage, Writes, Compacts, Expands, Rewrites, Tabulates, Reduces, MovesForward, MovesBack, Scans, Walks};
 
 // Judges a plain table: 0, or the refusal's number.
 #[no_mangle]
@@ -107,6 +108,14 @@ pub extern "C" fn kamordast_strings(list: &[u8], room: &mut [u8]) -> Built
     ensures { λ r. ⌜ Tabulates (now (list .entry)) (now (room .entry)) (r .refused) (r .length) (now (room .exit)) ⌝ }
 {
     tabulate::strings(list, room)
+}
+
+// Reduces a table to the smallest table with the same reports, at the front of the room.
+#[no_mangle]
+pub extern "C" fn kamordast_reduce(table: &[u8], room: &mut [u8]) -> Built
+    ensures { λ r. ⌜ Reduces (now (table .entry)) (now (room .entry)) (r .refused) (r .length) (now (room .exit)) ⌝ }
+{
+    reduce::reduce(table, room)
 }
 
 // Scans a payload from a state and writes its reports at the front of the room.

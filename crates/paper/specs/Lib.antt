@@ -27,6 +27,7 @@ pub mod Sentences
 pub mod Follows
 pub mod Endings
 pub mod Told
+pub mod Wakes
 pub mod Altered
 pub mod Handed
 pub mod Cases

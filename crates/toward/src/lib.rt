@@ -53,7 +53,7 @@ fn mark_round(t: &[u8], n: usize, k: usize, levels: &mut [u16; 512], level: u16)
 }
 
 // The level of each state of an accepted table, 65535 for none: round by round, until no state has the level of a round.
-fn levels_of(t: &[u8], n: usize, k: usize) -> [u16; 512]
+pub fn levels_of(t: &[u8], n: usize, k: usize) -> [u16; 512]
     requires { ⌜ AcceptedTable (now t) × (n ≡ states (now t)) × (k ≡ classes (now t)) ⌝ }
     ensures { λ r. ⌜ LevelsIn (now (t .entry)) n r ⌝ }
 {

@@ -1,0 +1,4 @@
+pub mod Marks
+pub mod Labels
+pub mod Filled
+pub mod Verdict
