@@ -5,6 +5,7 @@
 
 #include "kamordast.h"
 #include "reference/reference.h"
+#include "there_and_back.h"
 
 enum { PAYLOAD = 400 };
 
@@ -79,6 +80,7 @@ static void searched(const uint8_t *made, size_t made_length, int payloads) {
         kamordast_built b = kamordast_compact_in_order(made, made_length, o, (uint16_t)below(5), built[o], LONGEST_IMAGE);
         if (b.refused) fail("the table is not compacted", b.refused);
         image_length[o] = b.length;
+        there_and_back(built[o], b.length, cases);
     }
     while (payloads--) {
         size_t bytes = make_payload(), found = reference_search(list, length, payload, bytes, by_search);

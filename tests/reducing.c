@@ -7,6 +7,7 @@
 #include "kamordast.h"
 #include "machine.h"
 #include "reference/reference.h"
+#include "there_and_back.h"
 
 enum { PAYLOAD = 64 };
 
@@ -34,6 +35,8 @@ static void same_runs(size_t length, size_t reduced_length) {
     kamordast_built a = kamordast_compact_in_order(table, length, in_order, (uint16_t)bound, old_image, sizeof old_image);
     kamordast_built b = kamordast_compact_in_order(reduced, reduced_length, in_order, (uint16_t)bound, new_image, sizeof new_image);
     if (a.refused || b.refused) fail("a table is not compacted", cases);
+    there_and_back(old_image, a.length, cases);
+    there_and_back(new_image, b.length, cases);
     for (int run = 0; run < 6; run++) {
         size_t bytes = below(PAYLOAD + 1), room = below(2) ? sizeof before : below(6 * (uint32_t)bytes + 1);
         for (size_t i = 0; i < bytes; i++) payload[i] = (uint8_t)below(256);
