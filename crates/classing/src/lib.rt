@@ -7,8 +7,9 @@ ghost use lib.ListN.{length, getD};
 ghost use Rattle.paper.specs.Below.{any, bit};
 ghost use Rattle.paper.specs.Strings as given;
 ghost use Rattle.paper.specs.Strings.{Rule, rules};
+ghost use Rattle.paper.proofs.Filled.{Filled};
 ghost use Rattle.strings.proofs.Shape.{Starts};
-ghost use Rattle.strings.proofs.Marked.{Marked, within, Classing};
+ghost use Rattle.strings.proofs.Marked.{Marked, within};
 
 // Marks the `size` bytes from `at` on.
 fn mark_string(list: &[u8], at: usize, size: usize, used: &mut [bool; 256])
@@ -47,17 +48,12 @@ pub fn spare_of(used: &[bool; 256]) -> u16
     0
 }
 
-// The class of each byte, and a byte of each class; answers how many classes there are.
-pub fn classes_of(
-    used: &[bool; 256],
-    spare: u16,
-    classes: &mut [u8; 256],
-    bytes: &mut [u8; 256],
-) -> u16
-    requires { ⌜ (length (now classes) ≡ 256) × (length (now bytes) ≡ 256) × ((rs : List Rule) × Marked rs (now used) × (spare ≡ given.spare rs)) ⌝ }
-    ensures { λ r. ⌜ (length (now (classes .exit)) ≡ 256) × (length (now (bytes .exit)) ≡ 256)
+// The class of each byte; answers how many classes there are.
+pub fn classes_of(used: &[bool; 256], spare: u16, classes: &mut [u8; 256]) -> u16
+    requires { ⌜ (length (now classes) ≡ 256) × ((rs : List Rule) × Marked rs (now used) × (spare ≡ given.spare rs)) ⌝ }
+    ensures { λ r. ⌜ (length (now (classes .exit)) ≡ 256)
         × ((rs : List Rule) → Marked rs (now (used .entry)) → spare ≡ given.spare rs
-        → (r ≡ given.classes rs) × Classing rs (now (classes .exit)) (now (bytes .exit)) 256) ⌝ }
+        → (r ≡ given.classes rs) × Filled (given.classOf rs) (now (classes .exit)) 256) ⌝ }
 {
     let mut k = spare;
     for x in 0..256 {
@@ -67,7 +63,6 @@ pub fn classes_of(
             k += 1;
         }
         classes[x] = class as u8;
-        bytes[class as usize] = x as u8;
     }
     k
 }

@@ -1,4 +1,4 @@
--- A row filled for its first so many bytes.
+-- A row filled for its first so many classes.
 use mathlib.Core.Path.{_≡_, refl, ap₂, _∙_}
 use mathlib.Core.Bool.{cond}
 use mathlib.Core.List.{List}
@@ -21,8 +21,8 @@ pub part-none : (rows : List ℕ) (s l : ℕ) → Part rows rows s l 0
 part-none rows s l = record { filled = λ x h. absurd (omega arith); rest = λ x h hx. refl; others = λ q x hx n. refl }
 
 -- In the end the row is filled.
-pub part-all : (rows rows′ : List ℕ) (s l : ℕ) → Part rows rows′ s l 256 → RowFilled rows rows′ s l
-part-all rows rows′ s l P = record { row = P .filled; others = P .others }
+pub part-all : (rows rows′ : List ℕ) (s l k : ℕ) → Part rows rows′ s l k → RowFilled rows rows′ s l k
+part-all rows rows′ s l k P = record { row = P .filled; others = P .others }
 
 -- One place more: where a child stands it stays, else the place is taken from the row of l.
 pub part-turn : (rows before : List ℕ) (s l c : ℕ) → c < 256 → s < 512 → length before ≡ 131072 → Part rows before s l c → (other v : ℕ) → other ≡ getD rows (l * 256 + c) 0

@@ -1,4 +1,4 @@
-// Failure links and rows of next states of a word list, by byte, filled by rising length of the names.
+// Failure links and rows of next states of a word list, by class, filled by rising length of the names.
 ghost use mathlib.Core.Path.{_≡_};
 ghost use mathlib.Core.Bool.{cond};
 ghost use mathlib.Core.List.{List};
@@ -10,6 +10,7 @@ ghost use Rattle.paper.proofs.Filled as holds;
 ghost use Rattle.strings.proofs.RowsFilled.{RowFilled, Filled};
 ghost use Rattle.strings.proofs.Grow.{Grown, Stepped};
 ghost use Rattle.strings.proofs.LevelTurn.{linkRead, Prepared};
+ghost use Rattle.strings.proofs.Spread.{Columns, Alone, spread};
 
 // A number of 16 bits as an index.
 fn wide(x: u16) -> usize
@@ -25,16 +26,14 @@ fn wide_byte(x: u8) -> usize
     x as usize
 }
 
-// A row by itself, so that no write into the rows can change it.
-fn row_of(rows: &[u16; 131072], l: usize) -> [u16; 256]
-    requires { ⌜ l < 512 ⌝ }
-    ensures { λ r. ⌜ holds.Filled (λ c. getD (now (rows .entry)) (l * 256 + c) 0) r 256 ⌝ }
+// The first k places of a row by themselves, so that no write into the rows can change them.
+fn copy_row(rows: &[u16; 131072], l: usize, k: usize, linked: &mut [u16; 256])
+    requires { ⌜ (l < 512) × (k ≤ 256) × (length (now linked) ≡ 256) ⌝ }
+    ensures { λ _. ⌜ (length (now (linked .exit)) ≡ 256) × holds.Filled (λ c. getD (now (rows .entry)) (l * 256 + c) 0) (now (linked .exit)) k ⌝ }
 {
-    let mut row = [0u16; 256];
-    for c in 0..256 {
-        row[c] = rows[l * 256 + c];
+    for c in 0..k {
+        linked[c] = rows[l * 256 + c];
     }
-    row
 }
 
 // The next state where a child stands, else the other.
@@ -47,20 +46,20 @@ fn kept(own: u16, other: u16) -> u16
     own
 }
 
-// One row, from the row of its failure link: where no child stands, what stands there.
-fn fill_row(rows: &mut [u16; 131072], s: usize, l: usize)
-    requires { ⌜ (length (now rows) ≡ 131072) × (s < 512) × (l < 512) × (¬ (l ≡ s)) ⌝ }
-    ensures { λ _. ⌜ (length (now (rows .exit)) ≡ 131072) × RowFilled (now (rows .entry)) (now (rows .exit)) s l ⌝ }
+// One row of k classes, from the row of its failure link: where no child stands, what stands there.
+fn fill_row(rows: &mut [u16; 131072], s: usize, l: usize, k: usize, linked: &mut [u16; 256])
+    requires { ⌜ (length (now rows) ≡ 131072) × (s < 512) × (l < 512) × (¬ (l ≡ s)) × (k ≤ 256) × (length (now linked) ≡ 256) ⌝ }
+    ensures { λ _. ⌜ (length (now (rows .exit)) ≡ 131072) × (length (now (linked .exit)) ≡ 256) × RowFilled (now (rows .entry)) (now (rows .exit)) s l k ⌝ }
 {
-    let linked = row_of(rows, l);
-    for c in 0..256 {
+    copy_row(rows, l, k, linked);
+    for c in 0..k {
         let own = rows[s * 256 + c];
         let other = linked[c];
         rows[s * 256 + c] = kept(own, other);
     }
 }
 
-// The failure link of a state with parent p and last byte a.
+// The failure link of a state with parent p and a last byte of class a.
 fn link_of(rows: &[u16; 131072], links: &[u16; 512], p: usize, a: usize) -> u16
     requires { ⌜ (p < 512) × (a < 256) × (getD (now links) p 0 < 512) ⌝ }
     ensures { λ r. ⌜ r ≡ linkRead (now (rows .entry)) (now (links .entry)) p a ⌝ }
@@ -72,17 +71,25 @@ fn link_of(rows: &[u16; 131072], links: &[u16; 512], p: usize, a: usize) -> u16
     rows[l * 256 + a]
 }
 
-// The link and the row of a state with parent p and last byte a.
-fn fill_state(rows: &mut [u16; 131072], links: &mut [u16; 512], p: usize, a: usize, s: usize)
+// The link and the row of a state with parent p and a last byte of class a.
+fn fill_state(
+    rows: &mut [u16; 131072],
+    links: &mut [u16; 512],
+    p: usize,
+    a: usize,
+    s: usize,
+    k: usize,
+    linked: &mut [u16; 256],
+)
     requires { ⌜ (length (now rows) ≡ 131072) × (length (now links) ≡ 512) × (s < 512) × (p < 512) × (a < 256) × (getD (now links) p 0 < 512)
-        × (linkRead (now rows) (now links) p a < 512) × (¬ (linkRead (now rows) (now links) p a ≡ s)) ⌝ }
-    ensures { λ _. ⌜ (length (now (rows .exit)) ≡ 131072)
-        × RowFilled (now (rows .entry)) (now (rows .exit)) s (linkRead (now (rows .entry)) (now (links .entry)) p a)
+        × (linkRead (now rows) (now links) p a < 512) × (¬ (linkRead (now rows) (now links) p a ≡ s)) × (k ≤ 256) × (length (now linked) ≡ 256) ⌝ }
+    ensures { λ _. ⌜ (length (now (rows .exit)) ≡ 131072) × (length (now (linked .exit)) ≡ 256)
+        × RowFilled (now (rows .entry)) (now (rows .exit)) s (linkRead (now (rows .entry)) (now (links .entry)) p a) k
         × (now (links .exit) ≡ set (now (links .entry)) s (linkRead (now (rows .entry)) (now (links .entry)) p a)) ⌝ }
 {
     let l = link_of(rows, links, p, a);
     links[s] = l;
-    fill_row(rows, s, wide(l));
+    fill_row(rows, s, wide(l), k, linked);
 }
 
 // Links and rows of the states whose names are `level` long.
@@ -93,19 +100,23 @@ pub fn fill_level(
     last: &[u8; 512],
     long: &[u16; 512],
     n: usize,
+    classes: &[u8; 256],
+    k: usize,
     level: u16,
+    linked: &mut [u16; 256],
 )
-    requires { ⌜ (length (now rows) ≡ 131072) × (length (now links) ≡ 512) × (0 < level)
-        × ((rs : List Rule) × Prepared rs (now parent) (now last) (now long) n × Filled rs (now rows) (now links) level 0) ⌝ }
-    ensures { λ _. ⌜ (length (now (rows .exit)) ≡ 131072) × (length (now (links .exit)) ≡ 512)
+    requires { ⌜ (length (now rows) ≡ 131072) × (length (now links) ≡ 512) × (length (now linked) ≡ 256) × (0 < level) × (k ≤ 256) × Columns (now classes) k
+        × ((rs : List Rule) × Prepared rs (now parent) (now last) (now long) n × Filled rs (spread (now classes) (now rows)) (now links) level 0) ⌝ }
+    ensures { λ _. ⌜ (length (now (rows .exit)) ≡ 131072) × (length (now (links .exit)) ≡ 512) × (length (now (linked .exit)) ≡ 256)
         × ((rs : List Rule) → Prepared rs (now (parent .entry)) (now (last .entry)) (now (long .entry)) n
-        → Filled rs (now (rows .entry)) (now (links .entry)) level 0 → Filled rs (now (rows .exit)) (now (links .exit)) (level + 1) 0) ⌝ }
+        → Filled rs (spread (now (classes .entry)) (now (rows .entry))) (now (links .entry)) level 0
+        → Filled rs (spread (now (classes .entry)) (now (rows .exit))) (now (links .exit)) (level + 1) 0) ⌝ }
 {
     for s in 0..n {
         if long[s] == level {
             let p = wide(parent[s]);
-            let a = wide_byte(last[s]);
-            fill_state(rows, links, p, a, s);
+            let a = wide_byte(classes[wide_byte(last[s])]);
+            fill_state(rows, links, p, a, s, k, linked);
         }
     }
 }
@@ -118,15 +129,30 @@ pub fn fill_all(
     last: &[u8; 512],
     long: &[u16; 512],
     n: usize,
+    classes: &[u8; 256],
+    k: usize,
 )
-    requires { ⌜ (length (now rows) ≡ 131072) × (length (now links) ≡ 512)
-        × ((rs : List Rule) × Prepared rs (now parent) (now last) (now long) n × Filled rs (now rows) (now links) 1 0) ⌝ }
+    requires { ⌜ (length (now rows) ≡ 131072) × (length (now links) ≡ 512) × (k ≤ 256) × Columns (now classes) k
+        × ((rs : List Rule) × Prepared rs (now parent) (now last) (now long) n × Filled rs (spread (now classes) (now rows)) (now links) 1 0) ⌝ }
     ensures { λ _. ⌜ (length (now (rows .exit)) ≡ 131072) × (length (now (links .exit)) ≡ 512)
         × ((rs : List Rule) → Prepared rs (now (parent .entry)) (now (last .entry)) (now (long .entry)) n
-        → Filled rs (now (rows .entry)) (now (links .entry)) 1 0 → Filled rs (now (rows .exit)) (now (links .exit)) 33 0) ⌝ }
+        → Filled rs (spread (now (classes .entry)) (now (rows .entry))) (now (links .entry)) 1 0
+        → Filled rs (spread (now (classes .entry)) (now (rows .exit))) (now (links .exit)) 33 0) ⌝ }
 {
+    let mut linked = [0u16; 256];
     for level in 1..33u16 {
-        fill_level(rows, links, parent, last, long, n, level);
+        fill_level(
+            rows,
+            links,
+            parent,
+            last,
+            long,
+            n,
+            classes,
+            k,
+            level,
+            &mut linked,
+        );
     }
 }
 
@@ -136,18 +162,19 @@ pub fn step_in(
     parent: &mut [u16; 512],
     last: &mut [u8; 512],
     long: &mut [u16; 512],
+    classes: &[u8; 256],
     n: usize,
     p: usize,
     a: u8,
 ) -> usize
     requires { ⌜ (length (now rows) ≡ 131072) × (length (now parent) ≡ 512) × (length (now last) ≡ 512) × (length (now long) ≡ 512)
-        × (n ≤ 512) × (p < n) × (getD (now long) p 0 < 32) ⌝ }
+        × Columns (now classes) 256 × Alone (now classes) a × (n ≤ 512) × (p < n) × (getD (now long) p 0 < 32) ⌝ }
     ensures { λ r. ⌜ (length (now (rows .exit)) ≡ 131072) × (length (now (parent .exit)) ≡ 512) × (length (now (last .exit)) ≡ 512)
         × (length (now (long .exit)) ≡ 512)
-        × ((ws : List (List ℕ)) → length ws ≡ n → Grown ws (now (rows .entry)) (now (parent .entry)) (now (last .entry)) (now (long .entry))
-        → Stepped ws p a r (now (rows .exit)) (now (parent .exit)) (now (last .exit)) (now (long .exit))) ⌝ }
+        × ((ws : List (List ℕ)) → length ws ≡ n → Grown ws (spread (now (classes .entry)) (now (rows .entry))) (now (parent .entry)) (now (last .entry)) (now (long .entry))
+        → Stepped ws p a r (spread (now (classes .entry)) (now (rows .exit))) (now (parent .exit)) (now (last .exit)) (now (long .exit))) ⌝ }
 {
-    let b = wide_byte(a);
+    let b = wide_byte(classes[wide_byte(a)]);
     let d = rows[p * 256 + b];
     if d != 0 {
         return wide(d);

@@ -74,7 +74,7 @@ module _ (rs : List Rule) (parent last long : List ℕ) (n : ℕ) (P : Prepared 
         )
 
     -- With the link set and the row filled the state is done.
-    pub turn-more : (rows′ : List ℕ) (l : ℕ) → length links ≡ 512 → l ≡ link rs s → RowFilled rows rows′ s l → Filled rs rows′ (set links s l) L (s + 1)
+    pub turn-more : (rows′ : List ℕ) (l : ℕ) → length links ≡ 512 → l ≡ link rs s → RowFilled rows rows′ s l 256 → Filled rs rows′ (set links s l) L (s + 1)
     turn-more rows′ l big q R =
         let e : s + 1 ≡ suc s = omega arith in
         rw (e, q) (filled-more rs rows links L s F (P .some) (λ s. getD parent s 0) (λ s. getD last s 0) (P .trie) below deep′ turn-far rows′ (omega (arith, P .few)) (rw (← q) R))

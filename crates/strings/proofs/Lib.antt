@@ -35,4 +35,5 @@ pub mod Inserting
 pub mod Filling
 pub mod RowsFilled
 pub mod LevelTurn
+pub mod Spread
 pub mod Ready

@@ -1,23 +1,21 @@
--- Marks for the bytes in use, and the classes that they give: the class of each byte, and a byte of each class.
+-- Marks for the bytes in use, and the classes that they give.
 use mathlib.Core.Path.{_≡_, sym, ap, ap₂, _∙_}
 use mathlib.Core.Bool.{Bool, true, false, not, _||_, or-false, or-assoc}
 use mathlib.Core.List.{List, [], _∷_, _++_}
 use Prim.Native.Nat.{ℕ, _+_, _<_}
 use native.Mathlib.Numerals.{add-one}
-use native.Mathlib.Decide.{ℕ-discrete}
 use native.Mathlib.Omega.{arith}
 use lib.Dec.{eqb}
-use lib.ListN.{length, getD, set}
-use lib.Seq.{getD-set-same, getD-set-other}
+use lib.ListN.{length, getD}
 use Rattle.paper.specs.Below.{any, bit, howMany, list}
 use Rattle.paper.specs.Words.{byteAt}
-use Rattle.paper.specs.Strings.{Rule, rules, size, string, used, spare, classes, classOf}
+use Rattle.paper.specs.Strings.{Rule, rules, count, size, string, used, spare, classes, classOf}
 use Rattle.paper.proofs.Below.{any-same}
-use Rattle.paper.proofs.Filled.{Filled, fill-more}
-use Rattle.strings.proofs.Listed.{ruleAt}
+use Rattle.strings.proofs.Used.{Holds, held-used}
+use Rattle.strings.proofs.Listed.{ruleAt, one-of-rules}
 use Rattle.strings.proofs.Places.{string-byte, string-length}
 use Rattle.strings.proofs.Shape.{Starts}
-use Rattle.strings.proofs.Classes.{class-used, class-unused, class-met}
+use Rattle.strings.proofs.Classes.{class-used, class-unused}
 
 -- A byte is marked just where it stands in the string of some rule.
 abbrev pub Marked : List Rule → List Bool → Type 0
@@ -42,6 +40,13 @@ module _ (b starts : List ℕ) (n : ℕ) (S : Starts b starts n) where
       ∙ any-same m (λ j. eqb (getD (string b i) j 0) x) (λ j. eqb (byteAt b (getD starts i 0 + 4 + j)) x)
       (λ j hj. ap (λ (v : ℕ). eqb v x) (string-byte b i j (omega arith) ∙ ap (λ (at : ℕ). byteAt b (at + 4 + j)) (sym (S .start-is i h))))
 
+  -- So they are used.
+  pub string-used : (i j : ℕ) → i < n → j < size b i → used (rules b) (byteAt b (getD starts i 0 + 4 + j)) ≡ true
+  string-used i j h hj =
+      let k : i < count b = omega (arith, S .counted) in
+      let e = string-byte b i j hj ∙ ap (λ (at : ℕ). byteAt b (at + 4 + j)) (sym (S .start-is i h)) in
+      held-used (rules b) (byteAt b (getD starts i 0 + 4 + j)) (one-of-rules (Holds (byteAt b (getD starts i 0 + 4 + j))) b .1 (i, k, (j, omega (arith, string-length b (S .shape .ending) i k), e)))
+
   -- With the marks of one string more.
   pub marked-more : (i m : ℕ) (marks marks′ : List Bool) → i < n → m ≡ size b i
       → ((x : ℕ) → x < 256 → getD marks′ x false ≡ getD marks x false || within b (getD starts i 0 + 4) m x)
@@ -59,32 +64,7 @@ pub spare-marked : (rs : List Rule) (marks : List Bool) → Marked rs marks → 
 unfolding spare
 spare-marked rs marks M = ap bit (any-same 256 (λ x. not (getD marks x false)) (λ x. not (used rs x)) (λ x h. ap not (M x h)))
 
--- The classes of the first x bytes stand in the one list, and for each of them a byte of it in the other.
-pub record Classing (rs : List Rule) (classes bytes : List ℕ) (x : ℕ) : Type 0 where
-  pub classed : Filled (classOf rs) classes x
-  pub byte-of : (y : ℕ) → y < x → (getD bytes (classOf rs y) 0 < 256) × (classOf rs (getD bytes (classOf rs y) 0) ≡ classOf rs y)
-
 module _ (rs : List Rule) where
-  -- At first nothing stands there.
-  pub classing-none : (classes bytes : List ℕ) → Classing rs classes bytes 0
-  classing-none classes bytes = record { classed = λ q h. absurd (omega arith); byte-of = λ y h. absurd (omega arith) }
-
-  -- One byte more.
-  pub classing-more : (classes bytes : List ℕ) (x c : ℕ) → x < 256 → c < 256 → length classes ≡ 256 → length bytes ≡ 256 → c ≡ classOf rs x → Classing rs classes bytes x
-      → Classing rs (set classes x c) (set bytes c x) (x + 1)
-  classing-more classes bytes x c hx hc l m e C = record {
-    classed = fill-more (classOf rs) classes x c (omega arith) e (C .classed);
-    byte-of = λ y h. at y h (ℕ-discrete (classOf rs y) c);
-  }
-    where
-      at : (y : ℕ) → y < x + 1 → Dec (classOf rs y ≡ c) → (getD (set bytes c x) (classOf rs y) 0 < 256) × (classOf rs (getD (set bytes c x) (classOf rs y) 0) ≡ classOf rs y)
-      at y h (yes q) = rw (q, getD-set-same bytes c x 0 (omega arith)) (hx, sym e)
-      at y h (no q) = rw (getD-set-other bytes c (classOf rs y) x 0 q) (C .byte-of y (before (ℕ-discrete y x)))
-        where
-          before : Dec (y ≡ x) → y < x
-          before (yes w) = absurd (q (ap (classOf rs) w ∙ sym e))
-          before (no w) = omega arith
-
   -- A byte in use takes the next class,
   pub class-takes : (x k : ℕ) → used rs x ≡ true → k ≡ spare rs + howMany x (used rs) → (k ≡ classOf rs x) × (k + 1 ≡ spare rs + howMany (x + 1) (used rs))
   class-takes x k u e = (e ∙ sym (class-used rs x u), rw (add-one x, u) (omega arith))
@@ -97,9 +77,3 @@ module _ (rs : List Rule) where
   pub class-count : (x k : ℕ) → x ≡ 256 → k ≡ spare rs + howMany x (used rs) → k ≡ classes rs
   unfolding classes
   class-count x k e q = q ∙ ap (λ (m : ℕ). spare rs + howMany m (used rs)) e
-
-  -- Of each class there is a byte.
-  pub class-byte : (classes′ bytes : List ℕ) (x c : ℕ) → x ≡ 256 → Classing rs classes′ bytes x → c < classes rs → (getD bytes c 0 < 256) × (classOf rs (getD bytes c 0) ≡ c)
-  class-byte classes′ bytes x c e C h =
-      let (y, hy, q) = class-met rs c h in
-      rw q at (C .byte-of y (omega arith))

@@ -5,12 +5,14 @@ ghost use Prim.Native.Nat.{_≤_};
 ghost use lib.Dec.{ltb};
 ghost use lib.ListN.{length};
 ghost use Rattle.paper.specs.Refusals.{first};
-ghost use Rattle.paper.specs.Strings.{rules, names, tabulated};
+ghost use Rattle.paper.specs.Strings as given;
+ghost use Rattle.paper.specs.Strings.{rules, names, classOf, tabulated};
 ghost use Rattle.paper.specs.Operations.{building, filled};
 ghost use Rattle.paper.specs.Promises.{IsBuilt};
+ghost use Rattle.paper.proofs.Filled.{Filled};
 ghost use Rattle.strings.proofs.Shape.{Starts};
 ghost use Rattle.strings.proofs.Held.{Held};
-ghost use Rattle.strings.proofs.Marked.{Classing};
+ghost use Rattle.strings.proofs.Spread.{spread};
 ghost use Rattle.grow.specs.Sizes.{Sizes};
 ghost use Rattle.tabled.specs.Sized.{Sized};
 use answers::Built;
@@ -29,17 +31,16 @@ fn write_table(
     k: u16,
     classes: &[u8; 256],
     counts: &[u16; 512],
-    bytes: &[u8; 256],
     room: &mut [u8],
 )
     requires { ⌜ Starts (now list) (now starts) count × Sizes (now rows) (now parent) (now last) (now long) (now from)
-        × Held (now list) (names (rules (now list))) (now rows) (now parent) (now last) (now long) (now from) n
+        × Held (now list) (names (rules (now list))) (spread (now classes) (now rows)) (now parent) (now last) (now long) (now from) n
         × Sized (now list) (now starts) count n k (now from) (now long) (now counts)
-        × Classing (rules (now list)) (now classes) (now bytes) 256 × (length (tabulated (now list)) ≤ length (now room)) ⌝ }
+        × Filled (classOf (rules (now list))) (now classes) 256 × (length (tabulated (now list)) ≤ length (now room)) ⌝ }
     ensures { λ _. ⌜ now (room .exit) ≡ filled (tabulated (now (list .entry))) (now (room .entry)) ⌝ }
 {
     let mut links = [0u16; 512];
-    rows::fill_all(rows, &mut links, parent, last, long, n);
+    rows::fill_all(rows, &mut links, parent, last, long, n, classes, k as usize);
     tableparts::emit(
         list,
         starts,
@@ -51,7 +52,6 @@ fn write_table(
         classes,
         counts,
         rows,
-        bytes,
         room,
     );
 }
@@ -67,20 +67,18 @@ fn table_of(
     long: &[u16; 512],
     from: &[u16; 512],
     n: usize,
+    classes: &[u8; 256],
+    k: u16,
     room: &mut [u8],
 ) -> Built
     requires { ⌜ Starts (now list) (now starts) count × Sizes (now rows) (now parent) (now last) (now long) (now from)
-        × Held (now list) (names (rules (now list))) (now rows) (now parent) (now last) (now long) (now from) n ⌝ }
+        × Held (now list) (names (rules (now list))) (spread (now classes) (now rows)) (now parent) (now last) (now long) (now from) n
+        × (k ≡ given.classes (rules (now list))) × Filled (classOf (rules (now list))) (now classes) 256 ⌝ }
     ensures { λ r. ⌜ IsBuilt (building (first ((16, ltb (length (now (room .entry))) (length (tabulated (now (list .entry))))) ∷ [])) (tabulated (now (list .entry))) (now (room .entry)))
         (r .refused) (r .length) (now (room .exit)) ⌝ }
 {
     let counts = labelling::counts_of(list, starts, count, from, long, n);
     let held = tally::sum_of(&counts, n) as usize;
-    let used = classing::used_of(list, starts, count);
-    let spare = classing::spare_of(&used);
-    let mut classes = [0u8; 256];
-    let mut bytes = [0u8; 256];
-    let k = classing::classes_of(&used, spare, &mut classes, &mut bytes);
     let whole = 262 + 2 * n + 2 * held + 2 * (n * k as usize);
     if room.len() < whole {
         return answers::not_built(16);
@@ -96,9 +94,8 @@ fn table_of(
         from,
         n,
         k,
-        &classes,
+        classes,
         &counts,
-        &bytes,
         room,
     );
     Built {
@@ -107,13 +104,17 @@ fn table_of(
     }
 }
 
-// 28: more than 512 states. Else the table of the names is written.
+// The classes come first, since rows are by class. 28: more than 512 states. Else the table of the names is written.
 pub fn table_into(list: &[u8], starts: &[u16; 64], count: usize, room: &mut [u8]) -> Built
     requires { ⌜ Starts (now list) (now starts) count ⌝ }
     ensures { λ r. ⌜ IsBuilt (building (first ((28, ltb 512 (length (names (rules (now (list .entry))))))
         ∷ (16, ltb (length (now (room .entry))) (length (tabulated (now (list .entry))))) ∷ [])) (tabulated (now (list .entry))) (now (room .entry)))
         (r .refused) (r .length) (now (room .exit)) ⌝ }
 {
+    let used = classing::used_of(list, starts, count);
+    let spare = classing::spare_of(&used);
+    let mut classes = [0u8; 256];
+    let k = classing::classes_of(&used, spare, &mut classes);
     let mut rows = [0u16; 131072];
     let mut parent = [0u16; 512];
     let mut last = [0u8; 512];
@@ -128,6 +129,7 @@ pub fn table_into(list: &[u8], starts: &[u16; 64], count: usize, room: &mut [u8]
         &mut last,
         &mut long,
         &mut from,
+        &classes,
     );
     if n == 513 {
         return answers::not_built(28);
@@ -142,6 +144,8 @@ pub fn table_into(list: &[u8], starts: &[u16; 64], count: usize, room: &mut [u8]
         &long,
         &from,
         n,
+        &classes,
+        k,
         room,
     )
 }

@@ -45,23 +45,23 @@ pub length-counts : (counts : List ℕ) (n : ℕ) → length (each n (countBytes
 length-counts counts n = length-words n (λ s. getD counts s 0)
 
 -- Two for each class in a row.
-pub length-row : (rows bytes : List ℕ) (k s : ℕ) → length (rowBytes rows bytes k s) ≡ 2 * k
-length-row rows bytes k s = length-words k (λ c. getD rows (s * 256 + getD bytes c 0) 0)
+pub length-row : (rows : List ℕ) (k s : ℕ) → length (rowBytes rows k s) ≡ 2 * k
+length-row rows k s = length-words k (λ c. getD rows (s * 256 + c) 0)
 
 -- So for all states.
-pub length-rows : (rows bytes : List ℕ) (k n : ℕ) → length (each n (rowBytes rows bytes k)) ≡ 2 * (n * k)
-length-rows rows bytes k n = omega (arith, length-each (rowBytes rows bytes k) (λ s. 2 * (s * k)) (λ s. omega (arith, length-row rows bytes k s)) n)
+pub length-rows : (rows : List ℕ) (k n : ℕ) → length (each n (rowBytes rows k)) ≡ 2 * (n * k)
+length-rows rows k n = omega (arith, length-each (rowBytes rows k) (λ s. 2 * (s * k)) (λ s. omega (arith, length-row rows k s)) n)
 
-module _ (b from long : List ℕ) (n k : ℕ) (classes counts rows bytes : List ℕ) where
+module _ (b from long : List ℕ) (n k : ℕ) (classes counts rows : List ℕ) where
   -- All parts together.
-  pub length-assembled : length (assembled b from long n k classes counts rows bytes) ≡ 262 + 2 * n + length (each n (labelsAt b from long)) + 2 * (n * k)
+  pub length-assembled : length (assembled b from long n k classes counts rows) ≡ 262 + 2 * n + length (each n (labelsAt b from long)) + 2 * (n * k)
   unfolding assembled
   length-assembled =
       let a = head n k in
       let cs = classBytes classes in
       let ns = each n (countBytes counts) in
       let ls = each n (labelsAt b from long) in
-      let rs = each n (rowBytes rows bytes k) in
+      let rs = each n (rowBytes rows k) in
       omega (
         arith,
         length-append a (cs ++ (ns ++ (ls ++ rs))),
@@ -71,21 +71,21 @@ module _ (b from long : List ℕ) (n k : ℕ) (classes counts rows bytes : List 
         length-head n k,
         length-classes classes,
         length-counts counts n,
-        length-rows rows bytes k n,
+        length-rows rows k n,
       )
 
   -- Written one behind the other they fill the room.
-  pub emitted : (r₀ r₁ r₂ r₃ r₄ r₅ : List ℕ) (end : ℕ) → length (assembled b from long n k classes counts rows bytes) ≤ length r₀
+  pub emitted : (r₀ r₁ r₂ r₃ r₄ r₅ : List ℕ) (end : ℕ) → length (assembled b from long n k classes counts rows) ≤ length r₀
       → r₁ ≡ placed r₀ 0 (head n k) → r₂ ≡ placed r₁ 6 (classBytes classes) → r₃ ≡ placed r₂ 262 (each n (countBytes counts))
       → (end ≡ 262 + 2 * n + length (each n (labelsAt b from long))) × (r₄ ≡ placed r₃ (262 + 2 * n) (each n (labelsAt b from long)))
-      → r₅ ≡ placed r₄ end (each n (rowBytes rows bytes k)) → r₅ ≡ filled (assembled b from long n k classes counts rows bytes) r₀
+      → r₅ ≡ placed r₄ end (each n (rowBytes rows k)) → r₅ ≡ filled (assembled b from long n k classes counts rows) r₀
   unfolding assembled
   emitted r₀ r₁ r₂ r₃ r₄ r₅ end fits e₁ e₂ e₃ (far, e₄) e₅ =
       let a = head n k in
       let cs = classBytes classes in
       let ns = each n (countBytes counts) in
       let ls = each n (labelsAt b from long) in
-      let rs = each n (rowBytes rows bytes k) in
+      let rs = each n (rowBytes rows k) in
       let l₁ = length-head n k in
       let l₂ : length (a ++ cs) ≡ 262 = omega (arith, length-append a cs, length-classes classes) in
       let l₃ : length ((a ++ cs) ++ ns) ≡ 262 + 2 * n = omega (arith, length-append (a ++ cs) ns, length-counts counts n) in

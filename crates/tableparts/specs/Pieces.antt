@@ -18,15 +18,15 @@ classBytes classes = list 256 (λ x. getD classes x 0)
 abbrev pub countBytes : List ℕ → ℕ → List ℕ
 countBytes counts s = bytes16 (getD counts s 0)
 
--- The next state of a state on a class, by a byte of the class.
-abbrev pub cellBytes : List ℕ → List ℕ → ℕ → ℕ → List ℕ
-cellBytes rows bytes s c = bytes16 (getD rows (s * 256 + getD bytes c 0) 0)
+-- The next state of a state on a class.
+abbrev pub cellBytes : List ℕ → ℕ → ℕ → List ℕ
+cellBytes rows s c = bytes16 (getD rows (s * 256 + c) 0)
 
 -- The row of a state.
-abbrev pub rowBytes : List ℕ → List ℕ → ℕ → ℕ → List ℕ
-rowBytes rows bytes k s = each k (cellBytes rows bytes s)
+abbrev pub rowBytes : List ℕ → ℕ → ℕ → List ℕ
+rowBytes rows k s = each k (cellBytes rows s)
 
 -- All parts.
-unfoldable pub assembled : List ℕ → List ℕ → List ℕ → ℕ → ℕ → List ℕ → List ℕ → List ℕ → List ℕ → List ℕ
-assembled b from long n k classes counts rows bytes =
-    head n k ++ (classBytes classes ++ (each n (countBytes counts) ++ (each n (labelsAt b from long) ++ each n (rowBytes rows bytes k))))
+unfoldable pub assembled : List ℕ → List ℕ → List ℕ → ℕ → ℕ → List ℕ → List ℕ → List ℕ → List ℕ
+assembled b from long n k classes counts rows =
+    head n k ++ (classBytes classes ++ (each n (countBytes counts) ++ (each n (labelsAt b from long) ++ each n (rowBytes rows k))))

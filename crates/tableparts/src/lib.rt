@@ -41,26 +41,25 @@ fn put_counts(counts: &[u16; 512], n: usize, room: &mut [u8])
     }
 }
 
-// Writes the row of a state, by a byte of each class.
-fn put_row(rows: &[u16; 131072], bytes: &[u8; 256], k: usize, s: usize, room: &mut [u8], at: usize)
+// Writes the row of a state.
+fn put_row(rows: &[u16; 131072], k: usize, s: usize, room: &mut [u8], at: usize)
     requires { ⌜ (s < 512) × (k ≤ 256) × (at + 2 * k ≤ length (now room)) ⌝ }
-    ensures { λ _. ⌜ now (room .exit) ≡ placed (now (room .entry)) at (rowBytes (now (rows .entry)) (now (bytes .entry)) k s) ⌝ }
+    ensures { λ _. ⌜ now (room .exit) ≡ placed (now (room .entry)) at (rowBytes (now (rows .entry)) k s) ⌝ }
 {
     for c in 0..k {
-        let x = words::wide(bytes[c]) as usize;
-        let next = rows[s * 256 + x];
+        let next = rows[s * 256 + c];
         words::put16(room, at + 2 * c, next);
     }
 }
 
 // Writes the rows of all states.
-fn put_rows(rows: &[u16; 131072], bytes: &[u8; 256], n: usize, k: usize, room: &mut [u8], at: usize)
+fn put_rows(rows: &[u16; 131072], n: usize, k: usize, room: &mut [u8], at: usize)
     requires { ⌜ (n ≤ 512) × (k ≤ 256) × (at + 2 * (n * k) ≤ length (now room)) ⌝ }
-    ensures { λ _. ⌜ now (room .exit) ≡ placed (now (room .entry)) at (each n (rowBytes (now (rows .entry)) (now (bytes .entry)) k)) ⌝ }
+    ensures { λ _. ⌜ now (room .exit) ≡ placed (now (room .entry)) at (each n (rowBytes (now (rows .entry)) k)) ⌝ }
 {
     let mut here = at;
     for s in 0..n {
-        put_row(rows, bytes, k, s, room, here);
+        put_row(rows, k, s, room, here);
         here += 2 * k;
     }
 }
@@ -77,14 +76,13 @@ pub fn emit(
     classes: &[u8; 256],
     counts: &[u16; 512],
     rows: &[u16; 131072],
-    bytes: &[u8; 256],
     room: &mut [u8],
 )
     requires { ⌜ Starts (now list) (now starts) count × Names (now list) (now from) (now long) n × (k ≤ 256)
         × Filled (endedBy (now list) count (now from) (now long)) (now counts) n
-        × (length (assembled (now list) (now from) (now long) n k (now classes) (now counts) (now rows) (now bytes)) ≤ length (now room)) ⌝ }
+        × (length (assembled (now list) (now from) (now long) n k (now classes) (now counts) (now rows)) ≤ length (now room)) ⌝ }
     ensures { λ _. ⌜ now (room .exit)
-        ≡ filled (assembled (now (list .entry)) (now (from .entry)) (now (long .entry)) n k (now (classes .entry)) (now (counts .entry)) (now (rows .entry)) (now (bytes .entry))) (now (room .entry)) ⌝ }
+        ≡ filled (assembled (now (list .entry)) (now (from .entry)) (now (long .entry)) n k (now (classes .entry)) (now (counts .entry)) (now (rows .entry))) (now (room .entry)) ⌝ }
 {
     put_head(n as u16, k, room);
     put_classes(classes, room);
@@ -100,5 +98,5 @@ pub fn emit(
         room,
         262 + 2 * n,
     );
-    put_rows(rows, bytes, n, k as usize, room, end);
+    put_rows(rows, n, k as usize, room, end);
 }

@@ -1,4 +1,4 @@
--- The loop's invariant: the classes of the first x bytes and a byte of each are noted, and k is the next class.
+-- The loop's invariant: the classes of the first x bytes are noted, and k is the next class.
 use mathlib.Core.Path.{_≡_, sym, _∙_}
 use mathlib.Core.Logic.{⊎-elim}
 use mathlib.Core.List.{List}
@@ -10,18 +10,19 @@ use Rattle.paper.specs.Below.{howMany}
 use Rattle.paper.specs.Strings as given
 use Rattle.paper.specs.Strings.{Rule}
 use Rattle.paper.proofs.Counts.{count-le}
+use Rattle.paper.proofs.Filled.{Filled, fill-more}
 use Rattle.strings.proofs.Classes.{class-below, classes-most, spare-le}
-use Rattle.strings.proofs.Marked.{Marked, Classing, classing-none, classing-more, class-takes, class-skips, class-count}
+use Rattle.strings.proofs.Marked.{Marked, class-takes, class-skips, class-count}
 use Rattle.classing.proofs.classes_of.Statement.{statement}
 use Rattle.classing.proofs.classes_of.Tie as tie
 
 abbrev Inv-loop : tie.InvT-loop
-Inv-loop used spare classes₀ bytes₀ k₀ x₀ classes bytes k x =
-    (x ≤ 256) × (length classes ≡ 256) × (length bytes ≡ 256)
-    × ((rs : List Rule) → Marked rs used → spare ≡ given.spare rs → (k ≡ given.spare rs + howMany x (given.used rs)) × Classing rs classes bytes x)
+Inv-loop used spare classes₀ k₀ x₀ classes k x =
+    (x ≤ 256) × (length classes ≡ 256)
+    × ((rs : List Rule) → Marked rs used → spare ≡ given.spare rs → (k ≡ given.spare rs + howMany x (given.used rs)) × Filled (given.classOf rs) classes x)
 
 abbrev μ-loop : tie.MeasureT-loop
-μ-loop used spare classes₀ bytes₀ k₀ x₀ classes bytes k x = 256 - x
+μ-loop used spare classes₀ k₀ x₀ classes k x = 256 - x
 
 -- The class is that of the byte, and k goes on.
 turn : (c : tie.Joined1 Inv-loop μ-loop) → let l = c .before .before .before in let t = l .before in
@@ -30,7 +31,7 @@ turn : (c : tie.Joined1 Inv-loop μ-loop) → let l = c .before .before .before 
 turn c rs M e =
     let l = c .before .before .before in
     let h = c .before .before .loop-test .taken in
-    let (q, C) = l .loop .inv .3 rs M e in
+    let q = l .loop .inv .2 rs M e .0 in
     ⊎-elim
     (λ w. let (p, r) = class-takes rs (l .loop .x) (l .loop .k) (sym (M (l .loop .x) h) ∙ w .0 .taken) q in (w .2 ∙ p, w .1 ∙ r))
     (λ w. let (p, r) = class-skips rs (l .loop .x) (l .loop .k) (sym (M (l .loop .x) h) ∙ w .0 .left) q in (w .2 ∙ p, w .1 ∙ r))
@@ -40,20 +41,20 @@ turn c rs M e =
 small : (c : tie.Joined1 Inv-loop μ-loop) → c .if1 .class < 256
 small c =
     let l = c .before .before .before in
-    let (rs, M, e) = l .before .pre .2 in
+    let (rs, M, e) = l .before .pre .1 in
     omega (arith, turn c rs M e .0, class-below rs (l .loop .x) (c .before .before .loop-test .taken), classes-most rs)
 
 -- So is k.
 few : (c : tie.In-loop Inv-loop μ-loop) → let l = c .before in l .loop .k ≤ 1 + 256
 few c =
     let l = c .before in
-    let (rs, M, e) = l .before .pre .2 in
-    omega (arith, l .loop .inv .3 rs M e .0, spare-le rs, count-le (l .loop .x) (given.used rs))
+    let (rs, M, e) = l .before .pre .1 in
+    omega (arith, l .loop .inv .2 rs M e .0, spare-le rs, count-le (l .loop .x) (given.used rs))
 
 loop-holds : tie.Need-loop-holds Inv-loop μ-loop
 loop-holds c =
     let t = c in
-    (omega arith, t .pre .0, t .pre .1, λ rs M e. (e ∙ omega arith, classing-none rs (now (t .args .classes)) (now (t .args .bytes))))
+    (omega arith, t .pre .0, λ rs M e. (e ∙ omega arith, λ q h. absurd (omega arith)))
 
 element-copy-out-if1 : tie.Need-element-copy-out-if1 Inv-loop μ-loop
 element-copy-out-if1 c = omega arith
@@ -66,12 +67,6 @@ cast-classes c = omega (arith, small (c .before))
 
 element-write-classes : tie.Need-element-write-classes Inv-loop μ-loop
 element-write-classes c = omega arith
-
-cast-bytes : tie.Need-cast-bytes Inv-loop μ-loop
-cast-bytes c = omega arith
-
-element-write-bytes : tie.Need-element-write-bytes Inv-loop μ-loop
-element-write-bytes c = omega (arith, small (c .before))
 
 add-x : tie.Need-add-x Inv-loop μ-loop
 add-x c = omega arith
@@ -86,16 +81,15 @@ loop-again c =
     let h = j .before .before .loop-test .taken in (
       omega arith,
       length-set (l .loop .classes) (l .loop .x) (j .if1 .class) ∙ l .loop .inv .1,
-      length-set (l .loop .bytes) (j .if1 .class) (l .loop .x) ∙ l .loop .inv .2,
       λ rs M e.
-          (turn j rs M e .1, classing-more rs (l .loop .classes) (l .loop .bytes) (l .loop .x) (j .if1 .class) h (small j) (l .loop .inv .1) (l .loop .inv .2) (turn j rs M e .0) (l .loop .inv .3 rs M e .1)),
+          (turn j rs M e .1, fill-more (given.classOf rs) (l .loop .classes) (l .loop .x) (j .if1 .class) (omega (arith, h, l .loop .inv .1)) (turn j rs M e .0) (l .loop .inv .2 rs M e .1)),
     )
 
 returns : tie.Need-returns Inv-loop μ-loop
 returns c =
     let l = c .before in
     let q : l .loop .x ≡ 256 = omega arith in
-    (l .loop .inv .1, l .loop .inv .2, λ rs M e. let (p, C) = l .loop .inv .3 rs M e in (class-count rs (l .loop .x) (l .loop .k) q p, rw q at C))
+    (l .loop .inv .1, λ rs M e. let (p, C) = l .loop .inv .2 rs M e in (class-count rs (l .loop .x) (l .loop .k) q p, rw q at C))
 
 pub classes-of-spec : {M : Type 1} → statement M
 classes-of-spec =
@@ -108,8 +102,6 @@ classes-of-spec =
     add-k
     cast-classes
     element-write-classes
-    cast-bytes
-    element-write-bytes
     add-x
     loop-less
     loop-again

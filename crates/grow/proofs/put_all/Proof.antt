@@ -1,24 +1,28 @@
 -- The loop's invariant: the arrays hold the names of the first i strings.
 use mathlib.Core.Path.{_≡_, refl}
-use Prim.Native.Nat.{_+_, _-_, _≤_, _<_}
+use Prim.Native.Nat.{ℕ, _+_, _-_, _≤_, _<_}
 use native.Mathlib.Omega.{arith}
 use denote.Ref.{now}
 use lib.ListN.{length, getD}
-use Rattle.paper.specs.Strings.{size}
+use Rattle.paper.specs.Words.{byteAt}
+use Rattle.paper.specs.Strings.{rules, size}
 use Rattle.strings.proofs.Strings.{string-inside, string-size, size-is}
 use Rattle.strings.proofs.Shape.{place-most}
 use Rattle.strings.proofs.Putting.{upTo}
 use Rattle.strings.proofs.Held.{Held}
+use Rattle.strings.proofs.Classes.{classes-most}
+use Rattle.strings.proofs.Marked.{string-used}
+use Rattle.strings.proofs.Spread.{Columns, Alone, spread, spread-empty, classed-columns, classed-alone}
 use Rattle.grow.specs.Sizes.{Sizes}
 use Rattle.grow.proofs.Turns.{all-none, all-next, all-names, all-full}
 use Rattle.grow.proofs.put_all.Statement.{statement}
 use Rattle.grow.proofs.put_all.Tie as tie
 
 abbrev Inv-loop : tie.InvT-loop
-Inv-loop list starts count rows₀ parent₀ last₀ long₀ from₀ n₀ i₀ rows parent last long from n i = (i ≤ count) × Sizes rows parent last long from × Held list (upTo list i) rows parent last long from n
+Inv-loop list starts count rows₀ parent₀ last₀ long₀ from₀ classes n₀ i₀ rows parent last long from n i = (i ≤ count) × Sizes rows parent last long from × Held list (upTo list i) (spread classes rows) parent last long from n
 
 abbrev μ-loop : tie.MeasureT-loop
-μ-loop list starts count rows₀ parent₀ last₀ long₀ from₀ n₀ i₀ rows parent last long from n i = count - i
+μ-loop list starts count rows₀ parent₀ last₀ long₀ from₀ classes n₀ i₀ rows parent last long from n i = count - i
 
 -- The place at the call, from the head of the loop.
 abbrev start : tie.At-loop Inv-loop μ-loop → tie.Start Inv-loop μ-loop
@@ -46,11 +50,28 @@ read c =
     let a = start l .args in
     size-is (a .list .now) (a .starts .now) (a .count) (start l .pre .1) (l .loop .i) (c .before .before .loop-test .taken) (c .get16 .result) (c .get16 .ensures)
 
+-- The classes are columns of the rows,
+columns : (l : tie.At-loop Inv-loop μ-loop) → Columns (start l .args .classes .now) 256
+columns l x h =
+    let a = start l .args in
+    omega (arith, classed-columns (rules (a .list .now)) (a .classes .now) (start l .pre .2) x h, classes-most (rules (a .list .now)))
+
+-- and each byte of the string has its class for itself.
+alone : (c : tie.In-loop Inv-loop μ-loop) → let l = c .before in let a = start l .args in (m : ℕ) → m ≡ size (a .list .now) (l .loop .i) → (j : ℕ) → j < m
+    → Alone (a .classes .now) (byteAt (a .list .now) (getD (a .starts .now) (l .loop .i) 0 + 4 + j))
+alone c m e j h =
+    let l = c .before in
+    let a = start l .args in
+    let b = a .list .now in
+    let at = getD (a .starts .now) (l .loop .i) 0 + 4 + j in
+    classed-alone (rules b) (a .classes .now) (start l .pre .2) (byteAt b at) (omega (arith, l .before .shared-slice-known .given at))
+    (string-used b (a .starts .now) (a .count) (start l .pre .1) (l .loop .i) j (c .loop-test .taken) (omega arith))
+
 -- What a string leaves.
 put : (c : tie.After-put-string Inv-loop μ-loop) → let g = c .before .before .before .before .before .before in let l = g .before .before .before in
     let a = start l .args in let b = a .list .now in let r = c .put-string .result in let k = c .put-string .last in
     (r ≡ 513 → 512 < length (upTo b (l .loop .i + 1)))
-    × (¬ (r ≡ 513) → Held b (upTo b (l .loop .i + 1)) (k .1 .1 .1 .0) (k .1 .1 .1 .1 .0) (k .1 .1 .1 .1 .1 .0) (k .1 .1 .1 .1 .1 .1 .0) (k .1 .1 .1 .1 .1 .1 .1 .0) r)
+    × (¬ (r ≡ 513) → Held b (upTo b (l .loop .i + 1)) (spread (a .classes .now) (k .1 .1 .1 .0)) (k .1 .1 .1 .1 .0) (k .1 .1 .1 .1 .1 .0) (k .1 .1 .1 .1 .1 .1 .0) (k .1 .1 .1 .1 .1 .1 .1 .0) r)
 put c =
     let g = c .before .before .before .before .before .before in
     let l = g .before .before .before in
@@ -64,7 +85,7 @@ loop-holds : tie.Need-loop-holds Inv-loop μ-loop
 loop-holds c =
     let t = c .before in
     let a = t .args in
-    (omega arith, t .pre .0, all-none (now (a .list)) (now (a .rows)) (now (a .parent)) (now (a .last)) (now (a .long)) (now (a .from)) (t .pre .2) (t .pre .3) (t .pre .4))
+    (omega arith, t .pre .0, all-none (now (a .list)) (spread (now (a .classes)) (now (a .rows))) (now (a .parent)) (now (a .last)) (now (a .long)) (now (a .from)) (spread-empty (now (a .classes)) (now (a .rows)) (t .pre .3)) (t .pre .4) (t .pre .5))
 
 mul-at : tie.Need-mul-at Inv-loop μ-loop
 mul-at c = omega (arith, inside c)
@@ -92,7 +113,7 @@ put-string-requires c κs =
     let g = c .before .before .before .before .before in
     let l = g .before .before .before in
     let (few, ins, small, place) = inside (g .before .before) in
-    (l .loop .inv .1, omega (arith, read g), omega arith, omega (arith, read g), (upTo (start l .args .list .now) (l .loop .i), l .loop .inv .2))
+    (l .loop .inv .1, omega (arith, read g), omega arith, omega (arith, read g), columns l, alone (g .before .before) (g .get16 .result) (read g), (upTo (start l .args .list .now) (l .loop .i), l .loop .inv .2))
 
 returns : tie.Need-returns Inv-loop μ-loop
 returns c =

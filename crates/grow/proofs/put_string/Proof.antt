@@ -9,18 +9,19 @@ use lib.ListN.{getD, length-set}
 use Rattle.paper.specs.Words.{byteAt}
 use Rattle.strings.proofs.Held.{Held}
 use Rattle.strings.proofs.Putting.{putIn}
+use Rattle.strings.proofs.Spread.{spread}
 use Rattle.grow.specs.Sizes.{Sizes}
 use Rattle.grow.proofs.Turns.{Put, put-none, put-asks, put-full, put-below, put-turn}
 use Rattle.grow.proofs.put_string.Statement.{statement}
 use Rattle.grow.proofs.put_string.Tie as tie
 
 abbrev Inv-loop : tie.InvT-loop
-Inv-loop list at size rows₀ parent₀ last₀ long₀ from₀ n held₀ p₀ j₀ rows parent last long from held p j =
+Inv-loop list at size rows₀ parent₀ last₀ long₀ from₀ classes n held₀ p₀ j₀ rows parent last long from held p j =
     (j ≤ size) × Sizes rows parent last long from
-    × ((ws : List (List ℕ)) → Held list ws rows₀ parent₀ last₀ long₀ from₀ n → Put list ws at j rows parent last long from held p)
+    × ((ws : List (List ℕ)) → Held list ws (spread classes rows₀) parent₀ last₀ long₀ from₀ n → Put list ws at j (spread classes rows) parent last long from held p)
 
 abbrev μ-loop : tie.MeasureT-loop
-μ-loop list at size rows₀ parent₀ last₀ long₀ from₀ n held₀ p₀ j₀ rows parent last long from held p j = size - j
+μ-loop list at size rows₀ parent₀ last₀ long₀ from₀ classes n held₀ p₀ j₀ rows parent last long from held p j = size - j
 
 -- The place at the call, from the head of the loop.
 abbrev start : tie.At-loop Inv-loop μ-loop → tie.Start Inv-loop μ-loop
@@ -36,8 +37,8 @@ asks c =
     let l = c .before in
     let t = start l in
     let a = t .args in
-    let (ws, H) = t .pre .4 in
-    put-asks (now (a .list)) ws (a .at) (l .loop .j) (l .loop .rows) (l .loop .parent) (l .loop .last) (l .loop .long) (l .loop .from) (l .loop .held) (l .loop .p)
+    let (ws, H) = t .pre .6 in
+    put-asks (now (a .list)) ws (a .at) (l .loop .j) (spread (now (a .classes)) (l .loop .rows)) (l .loop .parent) (l .loop .last) (l .loop .long) (l .loop .from) (l .loop .held) (l .loop .p)
     (omega (arith, c .loop-test .taken, t .pre .1)) (omega (arith, c .loop-test .taken, t .pre .3)) (l .loop .inv .2 ws H)
 
 -- The state that the step answers has a place in the arrays.
@@ -47,15 +48,15 @@ below g d =
     let l = i .before in
     let t = start l in
     let a = t .args in
-    let (ws, H) = t .pre .4 in
-    put-below (now (a .list)) ws (a .at) (l .loop .j) (l .loop .rows) (l .loop .parent) (l .loop .last) (l .loop .long) (l .loop .from) (l .loop .held) (l .loop .p) (byteAt (now (a .list)) (a .at + l .loop .j)) (g .step-in .result) refl (omega (arith, i .loop-test .taken, t .pre .1))
-    (g .step-in .last .0) (g .step-in .last .1 .0) (g .step-in .last .1 .1 .0) (g .step-in .last .1 .1 .1 .0) (g .step-in .ensures .4) (l .loop .inv .2 ws H) d
+    let (ws, H) = t .pre .6 in
+    put-below (now (a .list)) ws (a .at) (l .loop .j) (spread (now (a .classes)) (l .loop .rows)) (l .loop .parent) (l .loop .last) (l .loop .long) (l .loop .from) (l .loop .held) (l .loop .p) (byteAt (now (a .list)) (a .at + l .loop .j)) (g .step-in .result) refl (omega (arith, i .loop-test .taken, t .pre .1))
+    (spread (now (a .classes)) (g .step-in .last .0)) (g .step-in .last .1 .0) (g .step-in .last .1 .1 .0) (g .step-in .last .1 .1 .1 .0) (g .step-in .ensures .4) (l .loop .inv .2 ws H) d
 
 loop-holds : tie.Need-loop-holds Inv-loop μ-loop
 loop-holds c =
     let t = c .before in
     let a = t .args in
-    (omega arith, t .pre .0, λ ws H. put-none (now (a .list)) ws (a .at) (now (a .rows)) (now (a .parent)) (now (a .last)) (now (a .long)) (now (a .from)) (a .n) H)
+    (omega arith, t .pre .0, λ ws H. put-none (now (a .list)) ws (a .at) (spread (now (a .classes)) (now (a .rows))) (now (a .parent)) (now (a .last)) (now (a .long)) (now (a .from)) (a .n) H)
 
 add-step-in : tie.Need-add-step-in Inv-loop μ-loop
 add-step-in c = let l = c .before .before .before .before .before in omega (arith, start l .pre .1)
@@ -69,7 +70,7 @@ step-in-requires c κs =
     let l = i .before in
     let z = l .loop .inv .1 in
     let (f, h, s) = asks i in
-    (z .rows-size, z .parent-size, z .last-size, z .long-size, f, h, s)
+    (z .rows-size, z .parent-size, z .last-size, z .long-size, start l .pre .4, start l .pre .5 (l .loop .j) (i .loop-test .taken), f, h, s)
 
 returns : tie.Need-returns Inv-loop μ-loop
 returns c =
@@ -81,8 +82,8 @@ returns c =
     let e = g .step-in .ensures in (
       record { rows-size = e .0; parent-size = e .1; last-size = e .2; long-size = e .3; from-size = l .loop .inv .1 .from-size },
       λ ws H. (
-        λ _. put-full (now (a .list)) ws (a .at) (l .loop .j) (l .loop .rows) (l .loop .parent) (l .loop .last) (l .loop .long) (l .loop .from) (l .loop .held) (l .loop .p) (byteAt (now (a .list)) (a .at + l .loop .j)) (g .step-in .result) refl (omega (arith, i .loop-test .taken, t .pre .1))
-            (g .step-in .last .0) (g .step-in .last .1 .0) (g .step-in .last .1 .1 .0) (g .step-in .last .1 .1 .1 .0) (g .step-in .ensures .4) (l .loop .inv .2 ws H) (a .size) (i .loop-test .taken) (c .if1 .taken),
+        λ _. put-full (now (a .list)) ws (a .at) (l .loop .j) (spread (now (a .classes)) (l .loop .rows)) (l .loop .parent) (l .loop .last) (l .loop .long) (l .loop .from) (l .loop .held) (l .loop .p) (byteAt (now (a .list)) (a .at + l .loop .j)) (g .step-in .result) refl (omega (arith, i .loop-test .taken, t .pre .1))
+            (spread (now (a .classes)) (g .step-in .last .0)) (g .step-in .last .1 .0) (g .step-in .last .1 .1 .0) (g .step-in .last .1 .1 .1 .0) (g .step-in .ensures .4) (l .loop .inv .2 ws H) (a .size) (i .loop-test .taken) (c .if1 .taken),
         λ d. absurd (d refl),
       ),
     )
@@ -117,8 +118,8 @@ loop-again c =
     let o : ((r ≡ l .loop .held) × (c .if2 .held ≡ l .loop .held + 1)) ⊎ ((¬ (r ≡ l .loop .held)) × (c .if2 .held ≡ l .loop .held)) = ⊎-elim (λ w. inl (w .0 .taken, w .1)) (λ w. inr (w .0 .left, w .1)) (c .if2 .came) in (
       omega arith,
       record { rows-size = e .0; parent-size = e .1; last-size = e .2; long-size = e .3; from-size = length-set (l .loop .from) r (a .at) ∙ l .loop .inv .1 .from-size },
-      λ ws H. put-turn (now (a .list)) ws (a .at) (l .loop .j) (l .loop .rows) (l .loop .parent) (l .loop .last) (l .loop .long) (l .loop .from) (l .loop .held) (l .loop .p) (byteAt (now (a .list)) (a .at + l .loop .j)) r refl (omega (arith, i .loop-test .taken, t .pre .1))
-          (g .step-in .last .0) (g .step-in .last .1 .0) (g .step-in .last .1 .1 .0) (g .step-in .last .1 .1 .1 .0) (g .step-in .ensures .4) (l .loop .inv .2 ws H) (l .loop .inv .1 .from-size) (c .before .if1 .left) (c .if2 .held) o,
+      λ ws H. put-turn (now (a .list)) ws (a .at) (l .loop .j) (spread (now (a .classes)) (l .loop .rows)) (l .loop .parent) (l .loop .last) (l .loop .long) (l .loop .from) (l .loop .held) (l .loop .p) (byteAt (now (a .list)) (a .at + l .loop .j)) r refl (omega (arith, i .loop-test .taken, t .pre .1))
+          (spread (now (a .classes)) (g .step-in .last .0)) (g .step-in .last .1 .0) (g .step-in .last .1 .1 .0) (g .step-in .last .1 .1 .1 .0) (g .step-in .ensures .4) (l .loop .inv .2 ws H) (l .loop .inv .1 .from-size) (c .before .if1 .left) (c .if2 .held) o,
     )
 
 returns-2 : tie.Need-returns-2 Inv-loop μ-loop
@@ -131,7 +132,7 @@ returns-2 c =
       λ ws H.
           let P = l .loop .inv .2 ws H in (
             λ q. absurd (omega (arith, P .holds .few)),
-            λ d. subst (λ (x : ℕ). Held (now (a .list)) (putIn (now (a .list)) (a .at) ws x) (l .loop .rows) (l .loop .parent) (l .loop .last) (l .loop .long) (l .loop .from) (l .loop .held)) e (P .holds),
+            λ d. subst (λ (x : ℕ). Held (now (a .list)) (putIn (now (a .list)) (a .at) ws x) (spread (now (a .classes)) (l .loop .rows)) (l .loop .parent) (l .loop .last) (l .loop .long) (l .loop .from) (l .loop .held)) e (P .holds),
           ),
     )
 

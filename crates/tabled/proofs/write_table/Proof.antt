@@ -13,6 +13,7 @@ use Rattle.strings.proofs.LevelTurn.{Prepared}
 use Rattle.strings.proofs.RowsFilled.{Filled}
 use Rattle.strings.proofs.Stands.{goes}
 use Rattle.strings.proofs.Ready.{rows-lead}
+use Rattle.strings.proofs.Spread.{spread, classed-columns}
 use Rattle.tableparts.specs.Pieces.{assembled}
 use Rattle.tabled.proofs.Assembled.{assembled-is}
 use Rattle.tabled.proofs.Ways.{zeros, held-names, ready, few-classes}
@@ -24,32 +25,33 @@ abbrev begun : tie.After-links → tie.Start
 begun c = c .before .before .before .before
 
 -- The names are ready for the filling.
-begins : (c : tie.After-links) → let a = begun c .args in Prepared (rules (now (a .list))) (now (a .parent)) (now (a .last)) (now (a .long)) (a .n) × Filled (rules (now (a .list))) (now (a .rows)) (replicate {A = ℕ} 512 0) 1 0
+begins : (c : tie.After-links) → let a = begun c .args in Prepared (rules (now (a .list))) (now (a .parent)) (now (a .last)) (now (a .long)) (a .n) × Filled (rules (now (a .list))) (spread (now (a .classes)) (now (a .rows))) (replicate {A = ℕ} 512 0) 1 0
 begins c =
     let t = begun c in
     ready (t .pre .2) (t .pre .0) (fits-bytes (now (t .args .list)) (c .before .before .before .shared-slice-known .given)) (replicate {A = ℕ} 512 0) (zeros 512 0)
 
 -- The rows lead where they should.
-lead : (g : tie.After-fill-all) → let t = begun (g .before) in (s x : ℕ) → s < t .args .n → x < 256 → getD (g .fill-all .last .0) (s * 256 + x) 0 ≡ goes (rules (now (t .args .list))) s x
+lead : (g : tie.After-fill-all) → let t = begun (g .before) in (s x : ℕ) → s < t .args .n → x < 256 → getD (spread (now (t .args .classes)) (g .fill-all .last .0)) (s * 256 + x) 0 ≡ goes (rules (now (t .args .list))) s x
 lead g s x hs hx =
     let t = begun (g .before) in
     let b = now (t .args .list) in
     let (P, F) = begins (g .before) in
-    rows-lead b (t .pre .0 .shape) (g .fill-all .last .0) (g .fill-all .last .1 .0) (g .fill-all .ensures .2 (rules b) P F) s x (omega (arith, t .pre .2 .counted)) hx
+    rows-lead b (t .pre .0 .shape) (spread (now (t .args .classes)) (g .fill-all .last .0)) (g .fill-all .last .1 .0) (g .fill-all .ensures .2 (rules b) P F) s x (omega (arith, t .pre .2 .counted)) hx
 
 -- All parts are the table.
 whole : (g : tie.After-fill-all) → let a = begun (g .before) .args in
-    assembled (now (a .list)) (now (a .from)) (now (a .long)) (a .n) (a .k) (now (a .classes)) (now (a .counts)) (g .fill-all .last .0) (now (a .bytes)) ≡ tabulated (now (a .list))
+    assembled (now (a .list)) (now (a .from)) (now (a .long)) (a .n) (a .k) (now (a .classes)) (now (a .counts)) (g .fill-all .last .0) ≡ tabulated (now (a .list))
 whole g =
     let t = begun (g .before) in
     let a = t .args in
-    assembled-is (t .pre .3) (now (a .classes)) (g .fill-all .last .0) (now (a .bytes)) (t .pre .4) (lead g)
+    assembled-is (t .pre .3) (t .pre .2 .few) (now (a .classes)) (g .fill-all .last .0) (t .pre .4) (lead g)
 
 fill-all-requires : tie.Need-fill-all-requires
 fill-all-requires c κs =
     let t = begun c in
+    let b = now (t .args .list) in
     let (P, F) = begins c in
-    (t .pre .1 .rows-size, refl, (rules (now (t .args .list)), P, F))
+    (t .pre .1 .rows-size, refl, few-classes (t .pre .3) (t .pre .2 .few), λ x h. omega (arith, t .pre .3 .classes-are, classed-columns (rules b) (now (t .args .classes)) (t .pre .4) x h), (rules b, P, F))
 
 emit-requires : tie.Need-emit-requires
 emit-requires c κs =

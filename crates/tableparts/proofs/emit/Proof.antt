@@ -14,7 +14,7 @@ use Rattle.tableparts.proofs.emit.Tie as tie
 fits : (t : tie.Start) → let a = t .args in 262 + 2 * a .n + length (each (a .n) (labelsAt (now (a .list)) (now (a .from)) (now (a .long)))) + 2 * (a .n * a .k) ≤ length (now (a .room))
 fits t =
     let a = t .args in
-    omega (arith, t .pre .4, length-assembled (now (a .list)) (now (a .from)) (now (a .long)) (a .n) (a .k) (now (a .classes)) (now (a .counts)) (now (a .rows)) (now (a .bytes)))
+    omega (arith, t .pre .4, length-assembled (now (a .list)) (now (a .from)) (now (a .long)) (a .n) (a .k) (now (a .classes)) (now (a .counts)) (now (a .rows)))
 
 cast-put-head : tie.Need-cast-put-head
 cast-put-head c = omega (arith, c .before .before .pre .1 .few)
@@ -85,7 +85,7 @@ returns c =
     let first = second .before .before .before .before in
     let t = first .before .before .before .before in
     let a = t .args in
-    emitted (now (a .list)) (now (a .from)) (now (a .long)) (a .n) (a .k) (now (a .classes)) (now (a .counts)) (now (a .rows)) (now (a .bytes)) (now (a .room)) _ _ _ _ _ (fourth .put-labels .result) (t .pre .4)
+    emitted (now (a .list)) (now (a .from)) (now (a .long)) (a .n) (a .k) (now (a .classes)) (now (a .counts)) (now (a .rows)) (now (a .room)) _ _ _ _ _ (fourth .put-labels .result) (t .pre .4)
     (first .put-head .ensures) (second .put-classes .ensures) (third .put-counts .ensures) (fourth .put-labels .ensures) (fifth .put-rows .ensures)
 
 pub emit-spec : {M : Type 1} → statement M

@@ -11,10 +11,10 @@ use Rattle.tableparts.proofs.put_rows.Statement.{statement}
 use Rattle.tableparts.proofs.put_rows.Tie as tie
 
 abbrev Inv-loop : tie.InvT-loop
-Inv-loop rows bytes n k room₀ at here₀ s₀ room here s = (s ≤ n) × Laid room₀ at (rowBytes rows bytes k) s room here
+Inv-loop rows n k room₀ at here₀ s₀ room here s = (s ≤ n) × Laid room₀ at (rowBytes rows k) s room here
 
 abbrev μ-loop : tie.MeasureT-loop
-μ-loop rows bytes n k room₀ at here₀ s₀ room here s = n - s
+μ-loop rows n k room₀ at here₀ s₀ room here s = n - s
 
 -- The place at the call, from the head of the loop.
 abbrev start : tie.At-loop Inv-loop μ-loop → tie.Start Inv-loop μ-loop
@@ -28,8 +28,8 @@ fits c =
     let a = t .args in
     omega (
       arith,
-      laid-room (l .loop .inv .1) (a .n) (c .loop-test .taken) (omega (arith, t .pre .2, length-rows (now (a .rows)) (now (a .bytes)) (a .k) (a .n))),
-      length-row (now (a .rows)) (now (a .bytes)) (a .k) (l .loop .s),
+      laid-room (l .loop .inv .1) (a .n) (c .loop-test .taken) (omega (arith, t .pre .2, length-rows (now (a .rows)) (a .k) (a .n))),
+      length-row (now (a .rows)) (a .k) (l .loop .s),
     )
 
 loop-holds : tie.Need-loop-holds Inv-loop μ-loop
@@ -60,7 +60,7 @@ loop-again c =
     let l = i .before in
     let t = start l in
     let a = t .args in
-    (omega arith, laid-more (l .loop .inv .1) (a .n) (i .loop-test .taken) (omega (arith, t .pre .2, length-rows (now (a .rows)) (now (a .bytes)) (a .k) (a .n))) _ _ (omega (arith, length-row (now (a .rows)) (now (a .bytes)) (a .k) (l .loop .s))) (put .put-row .ensures))
+    (omega arith, laid-more (l .loop .inv .1) (a .n) (i .loop-test .taken) (omega (arith, t .pre .2, length-rows (now (a .rows)) (a .k) (a .n))) _ _ (omega (arith, length-row (now (a .rows)) (a .k) (l .loop .s))) (put .put-row .ensures))
 
 same-length : tie.Need-same-length Inv-loop μ-loop
 same-length c = c .before .loop .inv .1 .as-long
