@@ -1,4 +1,4 @@
-/* Reduction of an accepted table in C. Blocks are named by their smallest reached state. They begin with equal labels, and round by round a block is split by the blocks that its states go to, until a round splits none: a state is compared with
+/* Reduction of an accepted table in C. Blocks are named by their smallest reached state. They begin with equal labels, the states that name one in the order of their labels, and round by round a block is split by the blocks that its states go to, until a round splits none: a state is compared with
  * the smallest of its block, and where they part with those behind it. States that part stay parted, so all rounds together compare each pair of states once at most beside that. */
 #include "plain.h"
 
@@ -45,12 +45,32 @@ static void find_reached(const parts *p, size_t start, uint8_t *reached) {
     }
 }
 
-/* The first names: the smallest reached state with equal labels. */
+/* The order of two states by their labels. */
+static int order_of(const parts *p, size_t x, size_t y) {
+    int longer = p->bytes[x] - p->bytes[y];
+    return longer ? longer : memcmp(p->label[x], p->label[y], p->bytes[x]);
+}
+
+/* The first names: the smallest reached state with equal labels. Those that name a block are kept in the order of their labels, and a state's place among them is found by halving. */
 static void name_by_labels(const parts *p, const uint8_t *reached, uint16_t *name) {
+    uint16_t heads[STATES];
+    size_t m = 0;
     for (size_t s = 0; s < p->n; s++) {
-        size_t x = 0;
-        while (x < s && !(reached[x] && p->bytes[x] == p->bytes[s] && !memcmp(p->label[x], p->label[s], p->bytes[s]))) x++;
-        name[s] = (uint16_t)(reached[s] ? x : GONE);
+        size_t low = 0, high = m;
+        name[s] = GONE;
+        if (!reached[s]) continue;
+        while (low < high) {
+            size_t middle = (low + high) / 2;
+            if (order_of(p, s, heads[middle]) > 0)
+                low = middle + 1;
+            else
+                high = middle;
+        }
+        if (low == m || order_of(p, s, heads[low])) {
+            memmove(heads + low + 1, heads + low, 2 * (m++ - low));
+            heads[low] = (uint16_t)s;
+        }
+        name[s] = heads[low];
     }
 }
 

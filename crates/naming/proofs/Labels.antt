@@ -1,25 +1,21 @@
--- Labels compared by their tags, in both editions.
-use mathlib.Core.Path.{_≡_, refl, sym, ap, ap₂, _∙_}
-use mathlib.Core.Bool.{Bool, true, false, true≢false}
+-- Labels compared by their tags and by the runs behind them, in both editions.
+use mathlib.Core.Path.{_≡_, refl, sym, ap, _∙_}
 use mathlib.Core.List.{List, _∷_, []}
-use Prim.Native.Nat.{ℕ, _+_, _*_, _≤_, _<_}
+use Prim.Native.Nat.{ℕ, zero, suc, _+_, _*_, _≤_, _<_}
 use native.Mathlib.Omega.{arith}
-use lib.Dec.{eqb}
 use lib.ListN.{length, getD}
-use borrow.Author.Tests.{eq-eqb, eqb-true}
-use Rattle.paper.specs.Below.{every, same}
 use Rattle.paper.specs.Words.{number16}
 use Rattle.paper.specs.Labels.{Edition, one, two, editionOf, labelsFrom, labelsBehind}
 use Rattle.paper.specs.Results.{labelNumber}
 use Rattle.paper.specs.Table.{states, labels}
-use Rattle.paper.proofs.Below.{every-all, every-at, each-same, bool-false}
+use Rattle.paper.proofs.Below.{each-same}
 use Rattle.paper.proofs.Lists.{length-list, getD-list}
 use Rattle.paper.proofs.Editions.{first-edition, second-edition}
 use Rattle.facts.proofs.TableFacts.{AcceptedTable}
 use Rattle.trips.proofs.Labels.{label-number}
 use Rattle.labels.specs.Tags.{tagOf, numbersFrom, tagged, Firsts}
 use Rattle.labels.proofs.Tags.{labels-tagged, tagged-in}
-use Rattle.reduction.proofs.Same.{same-true, eq-same}
+use Rattle.naming.specs.Ordered.{numbers, Before, BeforeIn}
 
 -- Equal labels have equal tags.
 tags-same : (e : Edition) (b : List ℕ) (from other tag mark : ℕ) → tagged e b from tag ≡ tagged e b other mark → tag ≡ mark
@@ -27,31 +23,9 @@ tags-same one b from other tag mark q = sym (label-number tag) ∙ ap labelNumbe
 tags-same two b from other tag mark q =
     sym (length-list tag (λ j. number16 b (from + 2 * j))) ∙ ap length q ∙ length-list mark (λ j. number16 b (other + 2 * j))
 
--- Runs of numbers are the same just where each number is.
-runs-same : (b : List ℕ) (from other count : ℕ) → every count (λ j. eqb (number16 b (from + 2 * j)) (number16 b (other + 2 * j))) ≡ same (numbersFrom b from count) (numbersFrom b other count)
-runs-same b from other count = both _ _ to back
-  where
-    f : ℕ → ℕ
-    f j = number16 b (from + 2 * j)
-
-    g : ℕ → ℕ
-    g j = number16 b (other + 2 * j)
-
-    both : (u v : Bool) → (u ≡ true → v ≡ true) → (v ≡ true → u ≡ true) → u ≡ v
-    both true v p q = sym (p refl)
-    both false true p q = absurd (true≢false (sym (q refl)))
-    both false false p q = refl
-
-    to : every count (λ j. eqb (f j) (g j)) ≡ true → same (numbersFrom b from count) (numbersFrom b other count) ≡ true
-    to e =
-        eq-same (numbersFrom b from count) (numbersFrom b other count)
-        (each-same count (λ j. f j ∷ []) (λ j. g j ∷ []) (λ j h. ap (λ (x : ℕ). x ∷ []) (eqb-true (f j) (g j) (every-at count j (λ j. eqb (f j) (g j)) e h))))
-
-    back : same (numbersFrom b from count) (numbersFrom b other count) ≡ true → every count (λ j. eqb (f j) (g j)) ≡ true
-    back e =
-        let q = same-true (numbersFrom b from count) (numbersFrom b other count) e in
-        every-all count (λ j. eqb (f j) (g j))
-        (λ j h. eq-eqb (f j) (g j) (sym (getD-list count j f 0 h) ∙ ap (λ (l : List ℕ). getD l j 0) q ∙ getD-list count j g 0 h))
+-- A state with the lesser tag comes before.
+pub tags-less : (t : List ℕ) (x y : ℕ) → number16 t (262 + 2 * x) < number16 t (262 + 2 * y) → Before (numbers t x) (numbers t y)
+tags-less t x y l = (0, λ i h. absurd (omega arith), l)
 
 module _ (t firsts : List ℕ) (word : ℕ) (W : word ≡ number16 t 0) (F : Firsts t 262 (states t) (editionOf word) firsts) where
   -- The labels of a state by its tag.
@@ -64,25 +38,44 @@ module _ (t firsts : List ℕ) (word : ℕ) (W : word ≡ number16 t 0) (F : Fir
   labels-run s tag hs h e = by-tag s hs ∙ rw (second-edition word h, ← e) refl
 
   module _ (x y : ℕ) (hx : x < states t) (hy : y < states t) where
-    -- States with different tags have different labels.
-    pub tags-differ : ¬ (number16 t (262 + 2 * x) ≡ number16 t (262 + 2 * y)) → false ≡ same (labels t x) (labels t y)
-    tags-differ ne =
-        sym (bool-false (same (labels t x) (labels t y)) (λ e.
-        ne (tags-same (editionOf word) t (262 + 2 * getD firsts x 0) (262 + 2 * getD firsts y 0) (tagOf t 262 x) (tagOf t 262 y)
-        (sym (by-tag x hx) ∙ same-true (labels t x) (labels t y) e ∙ by-tag y hy))))
+    -- States with the same labels have the same numbers.
+    pub numbers-same : labels t x ≡ labels t y → (i : ℕ) → numbers t x i ≡ numbers t y i
+    numbers-same e zero =
+        tags-same (editionOf word) t (262 + 2 * getD firsts x 0) (262 + 2 * getD firsts y 0) (tagOf t 262 x) (tagOf t 262 y) (sym (by-tag x hx) ∙ e ∙ by-tag y hy)
+    numbers-same e (suc i) = ap (λ (l : List ℕ). getD l i 0) e
 
     -- In edition 1 the tag is the label.
-    pub tags-agree : number16 t (262 + 2 * x) ≡ number16 t (262 + 2 * y) → word < 32768 → true ≡ same (labels t x) (labels t y)
-    tags-agree e h =
-        sym (eq-same (labels t x) (labels t y)
-        (by-tag x hx ∙ rw (first-edition word h, e) refl ∙ sym (by-tag y hy)))
+    pub tags-agree : number16 t (262 + 2 * x) ≡ number16 t (262 + 2 * y) → word < 32768 → labels t x ≡ labels t y
+    tags-agree e h = by-tag x hx ∙ rw (first-edition word h, e) refl ∙ sym (by-tag y hy)
 
-    -- In edition 2 the runs of labels decide.
-    pub runs-agree : (tag : ℕ) → tag ≡ number16 t (262 + 2 * x) → tag ≡ number16 t (262 + 2 * y) → 32768 ≤ word → (r : Bool)
-        → r ≡ every tag (λ j. eqb (number16 t (262 + 2 * getD firsts x 0 + 2 * j)) (number16 t (262 + 2 * getD firsts y 0 + 2 * j))) → r ≡ same (labels t x) (labels t y)
-    runs-agree tag ex ey h r q =
-        q ∙ runs-same t (262 + 2 * getD firsts x 0) (262 + 2 * getD firsts y 0) tag
-        ∙ ap₂ same (sym (labels-run x tag hx h ex)) (sym (labels-run y tag hy h ey))
+    module _ (tag : ℕ) (ex : tag ≡ number16 t (262 + 2 * x)) (ey : tag ≡ number16 t (262 + 2 * y)) (h : 32768 ≤ word) where
+      -- The numbers of the runs of both.
+      abbrev f : ℕ → ℕ
+      f j = number16 t (262 + 2 * getD firsts x 0 + 2 * j)
+
+      abbrev g : ℕ → ℕ
+      g j = number16 t (262 + 2 * getD firsts y 0 + 2 * j)
+
+      -- In edition 2 the labels are the same where the runs are,
+      pub runs-agree : ((j : ℕ) → j < tag → f j ≡ g j) → labels t x ≡ labels t y
+      runs-agree e =
+          labels-run x tag hx h ex
+          ∙ each-same tag (λ j. f j ∷ []) (λ j. g j ∷ []) (λ j l. ap (λ (n : ℕ). n ∷ []) (e j l))
+          ∙ sym (labels-run y tag hy h ey)
+
+      -- and in the order of the runs where they are not.
+      pub runs-less : BeforeIn tag f g → Before (numbers t x) (numbers t y)
+      runs-less (j, l, e, d) = (suc j, at, omega (arith, of-x j l, of-y j l))
+        where
+          of-x : (i : ℕ) → i < tag → getD (labels t x) i 0 ≡ f i
+          of-x i k = ap (λ (l : List ℕ). getD l i 0) (labels-run x tag hx h ex) ∙ getD-list tag i f 0 k
+
+          of-y : (i : ℕ) → i < tag → getD (labels t y) i 0 ≡ g i
+          of-y i k = ap (λ (l : List ℕ). getD l i 0) (labels-run y tag hy h ey) ∙ getD-list tag i g 0 k
+
+          at : (i : ℕ) → i < suc j → numbers t x i ≡ numbers t y i
+          at zero k = sym ex ∙ ey
+          at (suc i) k = of-x i (omega arith) ∙ e i (omega arith) ∙ sym (of-y i (omega arith))
 
 -- In edition 2 the labels of a state stand in the table.
 pub run-inside : (t firsts : List ℕ) (word s : ℕ) → AcceptedTable t → word ≡ number16 t 0 → Firsts t 262 (states t) (editionOf word) firsts → s < states t → 32768 ≤ word

@@ -1,1 +1,4 @@
+pub mod Ordered
 pub mod Labels
+pub mod Heads
+pub mod PutIn

@@ -1,47 +1,56 @@
-// The names with which the reduction begins: each state that is reached is named by the smallest reached state with the same labels, the others by 65535.
+// The names with which the reduction begins: each state that is reached is named by the smallest reached state with the same labels, the others by 65535. The states that name a block are kept in the order of their labels, so that each state is held to a few of them only.
 ghost use mathlib.Core.Path.{_≡_};
-ghost use Prim.Native.Nat.{_+_, _*_, _≤_, _<_};
-ghost use lib.Dec.{eqb};
+ghost use Prim.Native.Nat.{ℕ, _+_, _*_, _≤_, _<_};
 ghost use lib.ListN.{length};
-ghost use Rattle.paper.specs.Below.{every, same};
 ghost use Rattle.paper.specs.Words.{number16};
 ghost use Rattle.paper.specs.Labels.{editionOf};
-ghost use Rattle.paper.specs.Table.{states, labels};
+ghost use Rattle.paper.specs.Table.{states};
 ghost use Rattle.facts.proofs.TableFacts.{AcceptedTable};
 ghost use Rattle.labels.specs.Tags.{Firsts};
-ghost use Rattle.reduction.specs.Named.{Named, firstName, MarksReached, labelledAs};
+ghost use Rattle.reduction.specs.Named.{Named, firstName, MarksReached};
+ghost use Rattle.naming.specs.Ordered.{BeforeIn, Compared, Order};
+ghost use Rattle.naming.specs.Heads.{Heads, Place, PutIn};
 
-// So many numbers from one place on are those from another.
-fn same_run(t: &[u8], from: usize, other: usize, count: usize) -> bool
+// So many numbers from one place on compared with those from another: 0 where all are the same, else 1 where the first that differs is less, 2 where it is more.
+fn order_of_runs(t: &[u8], from: usize, other: usize, count: usize) -> u16
     requires { ⌜ (from + 2 * count ≤ length (now t)) × (other + 2 * count ≤ length (now t)) ⌝ }
-    ensures { λ r. ⌜ r ≡ every count (λ j. eqb (number16 (now (t .entry)) (from + 2 * j)) (number16 (now (t .entry)) (other + 2 * j))) ⌝ }
+    ensures { λ r. ⌜ Compared ((j : ℕ) → j < count → number16 (now (t .entry)) (from + 2 * j) ≡ number16 (now (t .entry)) (other + 2 * j))
+        (BeforeIn count (λ j. number16 (now (t .entry)) (from + 2 * j)) (λ j. number16 (now (t .entry)) (other + 2 * j)))
+        (BeforeIn count (λ j. number16 (now (t .entry)) (other + 2 * j)) (λ j. number16 (now (t .entry)) (from + 2 * j))) r ⌝ }
 {
     for j in 0..count {
         let a = words::get16(t, from + 2 * j);
         let b = words::get16(t, other + 2 * j);
-        if a != b {
-            return false;
+        if a < b {
+            return 1;
+        }
+        if b < a {
+            return 2;
         }
     }
-    true
+    0
 }
 
-// The states x and y have the same labels.
-fn same_labels(t: &[u8], word: u16, firsts: &[u16; 512], x: usize, y: usize) -> bool
+// The labels of x compared with those of y: their tags, then the labels behind them.
+fn order_of(t: &[u8], word: u16, firsts: &[u16; 512], x: usize, y: usize) -> u16
     requires { ⌜ AcceptedTable (now t) × (word ≡ number16 (now t) 0) × Firsts (now t) 262 (states (now t)) (editionOf word) (now firsts)
         × (x < states (now t)) × (y < states (now t)) ⌝ }
-    ensures { λ r. ⌜ r ≡ same (labels (now (t .entry)) x) (labels (now (t .entry)) y) ⌝ }
+    ensures { λ r. ⌜ Order (now (t .entry)) x y r ⌝ }
 {
     let tag = words::get16(t, 262 + 2 * x);
-    if tag != words::get16(t, 262 + 2 * y) {
-        return false;
+    let mark = words::get16(t, 262 + 2 * y);
+    if tag < mark {
+        return 1;
+    }
+    if mark < tag {
+        return 2;
     }
     if word < 32768 {
-        return true;
+        return 0;
     }
     let from = firsts[x];
     let other = firsts[y];
-    same_run(
+    order_of_runs(
         t,
         262 + 2 * from as usize,
         262 + 2 * other as usize,
@@ -49,39 +58,71 @@ fn same_labels(t: &[u8], word: u16, firsts: &[u16; 512], x: usize, y: usize) -> 
     )
 }
 
-// The state y is reached and has the labels of x.
-fn labelled_as(
+// The place of x among the m heads, by halving.
+fn place_of(
+    t: &[u8],
+    word: u16,
+    firsts: &[u16; 512],
+    heads: &[u16; 512],
+    m: usize,
+    x: usize,
+) -> usize
+    requires { ⌜ AcceptedTable (now t) × (word ≡ number16 (now t) 0) × Firsts (now t) 262 (states (now t)) (editionOf word) (now firsts)
+        × Heads (now t) (now heads) m x × (x < states (now t)) ⌝ }
+    ensures { λ r. ⌜ Place (now (t .entry)) (now (heads .entry)) m x r ⌝ }
+{
+    let mut low = 0;
+    let mut high = m;
+    while low < high {
+        let middle = (low + high) / 2;
+        let head = heads[middle] as usize;
+        if order_of(t, word, firsts, x, head) == 2 {
+            low = middle + 1;
+        } else {
+            high = middle;
+        }
+    }
+    low
+}
+
+// Puts x in at a place among m numbers; those from there on go one further.
+fn put_in(heads: &mut [u16; 512], m: usize, place: usize, x: u16)
+    requires { ⌜ (length (now heads) ≡ 512) × (place ≤ m) × (m < 512) ⌝ }
+    ensures { λ _. ⌜ PutIn (now (heads .entry)) (now (heads .exit)) m place x ⌝ }
+{
+    for i in 0..m - place {
+        let head = heads[m - i - 1];
+        heads[m - i] = head;
+    }
+    heads[place] = x;
+}
+
+// The name of x by its labels, 65535 where x is not reached. Where no head has them x becomes one.
+fn name_of(
     t: &[u8],
     word: u16,
     firsts: &[u16; 512],
     levels: &[u16; 512],
+    heads: &mut [u16; 512],
+    m: usize,
     x: usize,
-    y: usize,
-) -> bool
+) -> u16
     requires { ⌜ AcceptedTable (now t) × (word ≡ number16 (now t) 0) × Firsts (now t) 262 (states (now t)) (editionOf word) (now firsts)
-        × MarksReached (now t) (now levels) × (x < states (now t)) × (y < states (now t)) ⌝ }
-    ensures { λ r. ⌜ r ≡ labelledAs (now (t .entry)) x y ⌝ }
-{
-    if levels[y] == 65535 {
-        return false;
-    }
-    same_labels(t, word, firsts, x, y)
-}
-
-// The name of x by its labels: the first reached state that has them, 65535 where x is not reached.
-fn name_of(t: &[u8], word: u16, firsts: &[u16; 512], levels: &[u16; 512], x: usize) -> u16
-    requires { ⌜ AcceptedTable (now t) × (word ≡ number16 (now t) 0) × Firsts (now t) 262 (states (now t)) (editionOf word) (now firsts)
-        × MarksReached (now t) (now levels) × (x < states (now t)) ⌝ }
-    ensures { λ r. ⌜ r ≡ firstName (now (t .entry)) x ⌝ }
+        × MarksReached (now t) (now levels) × (length (now heads) ≡ 512) × Heads (now t) (now heads) m x × (x < states (now t)) ⌝ }
+    ensures { λ r. ⌜ (r ≡ firstName (now (t .entry)) x) × (length (now (heads .exit)) ≡ 512)
+        × (r ≡ x → Heads (now (t .entry)) (now (heads .exit)) (m + 1) (x + 1)) × (¬ (r ≡ x) → Heads (now (t .entry)) (now (heads .exit)) m (x + 1)) ⌝ }
 {
     if levels[x] == 65535 {
         return 65535;
     }
-    for y in 0..x {
-        if labelled_as(t, word, firsts, levels, x, y) {
-            return y as u16;
+    let place = place_of(t, word, firsts, heads, m, x);
+    if place < m {
+        let head = heads[place];
+        if order_of(t, word, firsts, x, head as usize) == 0 {
+            return head;
         }
     }
+    put_in(heads, m, place, x as u16);
     x as u16
 }
 
@@ -92,8 +133,13 @@ pub fn first_names(t: &[u8], word: u16, n: usize, levels: &[u16; 512]) -> [u16; 
 {
     let firsts = labels::firsts_of(t, 262, n, word);
     let mut name = [65535u16; 512];
+    let mut heads = [0u16; 512];
+    let mut m = 0;
     for x in 0..n {
-        let p = name_of(t, word, &firsts, levels, x);
+        let p = name_of(t, word, &firsts, levels, &mut heads, m, x);
+        if p as usize == x {
+            m += 1;
+        }
         name[x] = p;
     }
     name

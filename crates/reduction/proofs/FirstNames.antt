@@ -1,41 +1,28 @@
--- The names by labels, as a search over rising states finds them, are the blocks with which the rounds begin.
+-- The names by labels, each the first reached state with the same labels, are the blocks with which the rounds begin.
 use mathlib.Core.Path.{_≡_, refl, sym, ap₂, _∙_}
-use mathlib.Core.Bool.{Bool, true, false, _&&_}
+use mathlib.Core.Bool.{true, false, _&&_}
 use mathlib.Core.List.{List}
-use Prim.Native.Nat.{ℕ, _+_, _≤_, _<_}
+use Prim.Native.Nat.{ℕ, _≤_, _<_}
 use native.Mathlib.Omega.{arith}
 use lib.ListN.{getD}
 use borrow.Author.Tests.{eq-eqb, ne-eqb, not-true, not-false}
-use Rattle.paper.specs.Below.{same}
 use Rattle.paper.specs.Table.{states, labels}
 use Rattle.paper.specs.FallBack.{levels}
 use Rattle.paper.specs.Reduce.{reached}
 use Rattle.facts.proofs.TableFacts.{AcceptedTable}
 use Rattle.reduction.specs.Named.{Named, firstName, MarksReached, labelledAs, NoneLabelled}
 use Rattle.reduction.proofs.Same.{eq-same}
-use Rattle.reduction.proofs.Firsts.{least-found, none-next}
+use Rattle.reduction.proofs.Firsts.{least-found}
 use Rattle.reduction.proofs.Blocks.{blockAt, block-least}
 use Rattle.reduction.proofs.Reach.{closed, reached-below}
 
 module _ (t : List ℕ) where
-  -- One state more that is not reached or has other labels.
-  pub labelled-more : (x y : ℕ) → NoneLabelled t x y → labelledAs t x y ≡ false → NoneLabelled t x (y + 1)
-  labelled-more x y h e = none-next (labelledAs t x) y h e
-
   -- A state without a mark is reached, one with it is not.
   pub mark-not : (array : List ℕ) (x : ℕ) → MarksReached t array → x < states t → getD array x 0 ≡ 65535 → reached t (levels t) x ≡ false
   mark-not array x M h e = not-true (reached t (levels t) x) (sym (M x h) ∙ eq-eqb (getD array x 0) 65535 e)
 
   pub mark-reached : (array : List ℕ) (x : ℕ) → MarksReached t array → x < states t → ¬ (getD array x 0 ≡ 65535) → reached t (levels t) x ≡ true
   mark-reached array x M h e = not-false (reached t (levels t) x) (sym (M x h) ∙ ne-eqb (getD array x 0) 65535 e)
-
-  -- A state that is not reached names nothing.
-  pub labelled-not : (x y : ℕ) → reached t (levels t) y ≡ false → false ≡ labelledAs t x y
-  labelled-not x y e = rw e refl
-
-  -- For one that is the labels decide.
-  pub labelled-is : (x y : ℕ) (r : Bool) → reached t (levels t) y ≡ true → r ≡ same (labels t x) (labels t y) → r ≡ labelledAs t x y
-  labelled-is x y r e q = q ∙ rw e refl
 
   -- A state that is not reached has no name.
   pub first-not : (x : ℕ) → reached t (levels t) x ≡ false → 65535 ≡ firstName t x

@@ -1,8 +1,11 @@
--- The invariant of the loop: the names of the states before x are filled in.
-use mathlib.Core.Path.{refl, subst}
-use Prim.Native.Nat.{ℕ, _-_}
+-- The invariant of the loop: the names of the states before x are filled in, and the heads are those of these states.
+use mathlib.Core.Path.{_≡_, refl, subst}
+use mathlib.Core.Logic.{⊎-elim}
+use Prim.Native.Nat.{ℕ, _-_, _<_}
 use native.Mathlib.Omega.{arith}
+use borrow.Author.Needs.{needs}
 use denote.Ref.{now}
+use lib.ListN.{length}
 use Rattle.paper.specs.Labels.{editionOf}
 use Rattle.paper.specs.Table.{states}
 use Rattle.paper.proofs.Filled.{Fills, fills-none, fills-more}
@@ -10,14 +13,16 @@ use Rattle.facts.proofs.TableFacts.{table-few-labels}
 use Rattle.labels.specs.Tags.{Firsts}
 use Rattle.reduction.specs.Named.{firstName}
 use Rattle.reduction.proofs.FirstNames.{first-named}
+use Rattle.naming.specs.Heads.{Heads}
+use Rattle.naming.proofs.Heads.{heads-none}
 use Rattle.naming.proofs.first_names.Statement.{statement}
 use Rattle.naming.proofs.first_names.Tie as tie
 
 abbrev Inv-loop : tie.InvT-loop
-Inv-loop t word n levels firsts name₀ x₀ name x = Fills (firstName t) name x
+Inv-loop t word n levels firsts name₀ heads₀ m₀ x₀ name heads m x = Fills (firstName t) name x × (length heads ≡ 512) × Heads t heads m x
 
 abbrev μ-loop : tie.MeasureT-loop
-μ-loop t word n levels firsts name₀ x₀ name x = n - x
+μ-loop t word n levels firsts name₀ heads₀ m₀ x₀ name heads m x = n - x
 
 firsts-of-requires : tie.Need-firsts-of-requires Inv-loop μ-loop
 firsts-of-requires c κs =
@@ -35,45 +40,57 @@ firsts-are : (c : tie.After-firsts-of Inv-loop μ-loop) →
     Firsts (now (a .t)) 262 (states (now (a .t))) (editionOf (a .word)) (c .firsts-of .result)
 firsts-are c = let s = c .before .before in subst (λ (n : ℕ). Firsts (now (s .args .t)) 262 n (editionOf (s .args .word)) (c .firsts-of .result)) (s .pre .2) (c .firsts-of .ensures)
 
+-- The state of the turn is one of at most 512.
+inside : (c : tie.In-loop Inv-loop μ-loop) → let s = c .before .before .before .before in (c .before .loop .x < states (now (s .args .t))) × (c .before .loop .x < 512)
+inside c =
+    let s = c .before .before .before .before in
+    (omega (arith, s .pre .2, c .loop-test .taken), omega (arith, s .pre .0 .few-states, s .pre .2, c .loop-test .taken))
+
 loop-holds : tie.Need-loop-holds Inv-loop μ-loop
-loop-holds c = fills-none refl
+loop-holds c = (fills-none refl, refl, heads-none _ _)
 
 name-of-requires : tie.Need-name-of-requires Inv-loop μ-loop
 name-of-requires c κs =
-    let f = c .before .before .before in
+    let at = c .before .before in
+    let l = at .before in
+    let f = l .before in
     let s = f .before .before in
-    (s .pre .0, s .pre .1, firsts-are f, s .pre .3, omega (arith, s .pre .2, c .before .loop-test .taken))
+    (s .pre .0, s .pre .1, firsts-are f, s .pre .3, l .loop .inv .1, l .loop .inv .2, inside at .0)
+
+cast-if1 : tie.Need-cast-if1 Inv-loop μ-loop
+cast-if1 c = search needs
+
+add-m : tie.Need-add-m Inv-loop μ-loop
+add-m c = let at = c .before .before .before .before in omega (arith, at .before .loop .inv .2 .few, inside at)
 
 mul-name : tie.Need-mul-name Inv-loop μ-loop
-mul-name c =
-    let s = c .before .before .before .before .before .before in
-    omega (arith, s .pre .0 .few-states, s .pre .2, c .before .before .loop-test .taken)
+mul-name c = omega (arith, inside (c .before .before .before .before))
 
 array-write-name : tie.Need-array-write-name Inv-loop μ-loop
-array-write-name c =
-    let s = c .before .before .before .before .before .before in
-    omega (arith, s .pre .0 .few-states, s .pre .2, c .before .before .loop-test .taken)
+array-write-name c = omega (arith, inside (c .before .before .before .before))
 
 add-x : tie.Need-add-x Inv-loop μ-loop
-add-x c =
-    let s = c .before .before .before .before .before .before in
-    omega (arith, s .pre .0 .few-states, s .pre .2, c .before .before .loop-test .taken)
+add-x c = omega (arith, inside (c .before .before .before .before))
 
 loop-less : tie.Need-loop-less Inv-loop μ-loop
-loop-less c = omega (arith, c .before .before .loop-test .taken)
+loop-less c = omega (arith, c .before .before .before .before .loop-test .taken)
 
 loop-again : tie.Need-loop-again Inv-loop μ-loop
 loop-again c =
-    let at = c .before .before in
+    let g = c .before in
+    let at = g .before .before .before in
     let l = at .before in
-    let s = l .before .before .before in
-    fills-more (l .loop .inv) (omega (arith, s .pre .0 .few-states, s .pre .2, at .loop-test .taken)) (c .name-of .ensures)
+    let E = g .name-of .ensures in (
+      fills-more (l .loop .inv .0) (inside at .1) (E .0),
+      E .1,
+      ⊎-elim (λ w. rw (w .1) (E .2 (w .0 .taken))) (λ w. rw (w .1) (E .3 (w .0 .left))) (c .if1 .came),
+    )
 
 returns : tie.Need-returns Inv-loop μ-loop
 returns c =
     let l = c .before in
     let s = l .before .before .before in
-    first-named (now (s .args .t)) (l .loop .name) (λ x h. l .loop .inv .filled x (omega (arith, s .pre .2, c .loop-test .left)))
+    first-named (now (s .args .t)) (l .loop .name) (λ x h. l .loop .inv .0 .filled x (omega (arith, s .pre .2, c .loop-test .left)))
 
 pub first-names-spec : {M : Type 1} → statement M
 first-names-spec =
@@ -84,6 +101,8 @@ first-names-spec =
     firsts-of-requires
     loop-holds
     name-of-requires
+    cast-if1
+    add-m
     mul-name
     array-write-name
     add-x
