@@ -1,5 +1,5 @@
-/* Reduction of an accepted table in C. Blocks are named by their smallest reached state. They begin with equal labels, the states that name one in the order of their labels, and round by round a block is split by the blocks that its states go to, until a round splits none: a state is compared with
- * the smallest of its block, and where they part with those behind it. States that part stay parted, so all rounds together compare each pair of states once at most beside that. */
+/* Reduction of an accepted table in C. Blocks are named by their smallest reached state. They begin with equal labels, and round by round a block is split by the blocks that its states go to, until a round splits none: a state is compared with
+ * the smallest of its block. Where they part, and for labels, the states that name a block are kept in the order in which states are compared, and a state's place among them is found by halving, so that not all pairs are compared. */
 #include "plain.h"
 
 enum { STATES = 512, GONE = 65535 };
@@ -45,51 +45,64 @@ static void find_reached(const parts *p, size_t start, uint8_t *reached) {
     }
 }
 
-/* The order of two states by their labels. */
-static int order_of(const parts *p, size_t x, size_t y) {
+/* The states that name blocks, in the order of what is compared. */
+typedef struct {
+    size_t count;
+    uint16_t state[STATES];
+} heads;
+
+typedef int comparing(const parts *p, const uint16_t *name, size_t x, size_t y);
+
+/* The head that is the same as s, which becomes one where there is none. */
+static inline uint16_t head_of(const parts *p, const uint16_t *name, comparing *order_of, heads *h, size_t s) {
+    size_t low = 0, high = h->count;
+    while (low < high) {
+        size_t middle = (low + high) / 2;
+        int order = order_of(p, name, s, h->state[middle]);
+        if (!order) return h->state[middle];
+        if (order > 0)
+            low = middle + 1;
+        else
+            high = middle;
+    }
+    memmove(h->state + low + 1, h->state + low, 2 * (h->count++ - low));
+    return h->state[low] = (uint16_t)s;
+}
+
+static int by_labels(const parts *p, const uint16_t *name, size_t x, size_t y) {
     int longer = p->bytes[x] - p->bytes[y];
+    (void)name;
     return longer ? longer : memcmp(p->label[x], p->label[y], p->bytes[x]);
 }
 
-/* The first names: the smallest reached state with equal labels. Those that name a block are kept in the order of their labels, and a state's place among them is found by halving. */
+/* The first names: the smallest reached state with equal labels. */
 static void name_by_labels(const parts *p, const uint8_t *reached, uint16_t *name) {
-    uint16_t heads[STATES];
-    size_t m = 0;
-    for (size_t s = 0; s < p->n; s++) {
-        size_t low = 0, high = m;
-        name[s] = GONE;
-        if (!reached[s]) continue;
-        while (low < high) {
-            size_t middle = (low + high) / 2;
-            if (order_of(p, s, heads[middle]) > 0)
-                low = middle + 1;
-            else
-                high = middle;
-        }
-        if (low == m || order_of(p, s, heads[low])) {
-            memmove(heads + low + 1, heads + low, 2 * (m++ - low));
-            heads[low] = (uint16_t)s;
-        }
-        name[s] = heads[low];
-    }
+    heads h;
+    h.count = 0;
+    for (size_t s = 0; s < p->n; s++) name[s] = reached[s] ? head_of(p, name, by_labels, &h, s) : GONE;
 }
 
-/* Whether two states of one block go to the same blocks by every class. */
-static int go_alike(const parts *p, const uint16_t *name, size_t x, size_t y) {
+/* By the names of two states, then by those of the states they go to, class by class. */
+static int by_steps(const parts *p, const uint16_t *name, size_t x, size_t y) {
     const uint8_t *row = p->rows + 2 * x * p->k, *other = p->rows + 2 * y * p->k;
-    for (size_t c = 0; c < p->k; c++)
-        if (name[plain_number16(row + 2 * c)] != name[plain_number16(other + 2 * c)]) return 0;
-    return 1;
+    if (name[x] != name[y]) return name[x] - name[y];
+    for (size_t c = 0; c < p->k; c++) {
+        int apart = name[plain_number16(row + 2 * c)] - name[plain_number16(other + 2 * c)];
+        if (apart) return apart;
+    }
+    return 0;
 }
 
-/* Rounds until one splits no block: a state is named anew by the first state of its block that goes where it goes. It looks from its name on, below which no state has it. */
+/* Rounds until one splits no block: a state keeps its name where it goes on as the state that names it, else it is named by the head that does. */
 static void refine(const parts *p, uint16_t *name) {
     uint16_t now[STATES];
     for (;;) {
+        heads h;
+        h.count = 0;
         for (size_t s = 0; s < p->n; s++) {
-            size_t x = name[s];
-            while (x < s && !(name[x] == name[s] && go_alike(p, name, x, s))) x++;
-            now[s] = (uint16_t)x;
+            size_t block = name[s];
+            int stays = block == GONE || (block < s && !by_steps(p, name, s, block));
+            now[s] = stays ? name[s] : head_of(p, name, by_steps, &h, s);
         }
         if (!memcmp(now, name, 2 * p->n)) return;
         memcpy(name, now, 2 * p->n);

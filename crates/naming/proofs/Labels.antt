@@ -1,21 +1,30 @@
 -- Labels compared by their tags and by the runs behind them, in both editions.
-use mathlib.Core.Path.{_≡_, refl, sym, ap, _∙_}
+use mathlib.Core.Path.{_≡_, refl, sym, ap, ap₂, _∙_}
+use mathlib.Core.Bool.{_&&_}
 use mathlib.Core.List.{List, _∷_, []}
 use Prim.Native.Nat.{ℕ, zero, suc, _+_, _*_, _≤_, _<_}
+use native.Mathlib.Decide.{decLt}
 use native.Mathlib.Omega.{arith}
 use lib.ListN.{length, getD}
+use Rattle.paper.specs.Below.{same}
 use Rattle.paper.specs.Words.{number16}
 use Rattle.paper.specs.Labels.{Edition, one, two, editionOf, labelsFrom, labelsBehind}
 use Rattle.paper.specs.Results.{labelNumber}
 use Rattle.paper.specs.Table.{states, labels}
-use Rattle.paper.proofs.Below.{each-same}
+use Rattle.paper.specs.FallBack.{levels}
+use Rattle.paper.specs.Reduce.{reached}
+use Rattle.paper.proofs.Below.{and-true, bool-false, each-same}
 use Rattle.paper.proofs.Lists.{length-list, getD-list}
 use Rattle.paper.proofs.Editions.{first-edition, second-edition}
 use Rattle.facts.proofs.TableFacts.{AcceptedTable}
 use Rattle.trips.proofs.Labels.{label-number}
 use Rattle.labels.specs.Tags.{tagOf, numbersFrom, tagged, Firsts}
 use Rattle.labels.proofs.Tags.{labels-tagged, tagged-in}
-use Rattle.naming.specs.Ordered.{numbers, Before, BeforeIn}
+use Rattle.reduction.specs.Named.{firstName, labelledAs}
+use Rattle.reduction.proofs.Same.{same-true, eq-same}
+use Rattle.reduction.proofs.FirstNames.{first-found}
+use Rattle.naming.specs.Ordered.{Same, Before, BeforeIn, numbers}
+use Rattle.naming.specs.Heads.{First, Reached}
 
 -- Equal labels have equal tags.
 tags-same : (e : Edition) (b : List ℕ) (from other tag mark : ℕ) → tagged e b from tag ≡ tagged e b other mark → tag ≡ mark
@@ -39,7 +48,7 @@ module _ (t firsts : List ℕ) (word : ℕ) (W : word ≡ number16 t 0) (F : Fir
 
   module _ (x y : ℕ) (hx : x < states t) (hy : y < states t) where
     -- States with the same labels have the same numbers.
-    pub numbers-same : labels t x ≡ labels t y → (i : ℕ) → numbers t x i ≡ numbers t y i
+    pub numbers-same : labels t x ≡ labels t y → Same (numbers t x) (numbers t y)
     numbers-same e zero =
         tags-same (editionOf word) t (262 + 2 * getD firsts x 0) (262 + 2 * getD firsts y 0) (tagOf t 262 x) (tagOf t 262 y) (sym (by-tag x hx) ∙ e ∙ by-tag y hy)
     numbers-same e (suc i) = ap (λ (l : List ℕ). getD l i 0) e
@@ -56,7 +65,14 @@ module _ (t firsts : List ℕ) (word : ℕ) (W : word ≡ number16 t 0) (F : Fir
       abbrev g : ℕ → ℕ
       g j = number16 t (262 + 2 * getD firsts y 0 + 2 * j)
 
-      -- In edition 2 the labels are the same where the runs are,
+      -- They are the labels.
+      of-x : (i : ℕ) → i < tag → getD (labels t x) i 0 ≡ f i
+      of-x i k = ap (λ (l : List ℕ). getD l i 0) (labels-run x tag hx h ex) ∙ getD-list tag i f 0 k
+
+      of-y : (i : ℕ) → i < tag → getD (labels t y) i 0 ≡ g i
+      of-y i k = ap (λ (l : List ℕ). getD l i 0) (labels-run y tag hy h ey) ∙ getD-list tag i g 0 k
+
+      -- So in edition 2 the labels are the same where the runs are,
       pub runs-agree : ((j : ℕ) → j < tag → f j ≡ g j) → labels t x ≡ labels t y
       runs-agree e =
           labels-run x tag hx h ex
@@ -67,15 +83,28 @@ module _ (t firsts : List ℕ) (word : ℕ) (W : word ≡ number16 t 0) (F : Fir
       pub runs-less : BeforeIn tag f g → Before (numbers t x) (numbers t y)
       runs-less (j, l, e, d) = (suc j, at, omega (arith, of-x j l, of-y j l))
         where
-          of-x : (i : ℕ) → i < tag → getD (labels t x) i 0 ≡ f i
-          of-x i k = ap (λ (l : List ℕ). getD l i 0) (labels-run x tag hx h ex) ∙ getD-list tag i f 0 k
-
-          of-y : (i : ℕ) → i < tag → getD (labels t y) i 0 ≡ g i
-          of-y i k = ap (λ (l : List ℕ). getD l i 0) (labels-run y tag hy h ey) ∙ getD-list tag i g 0 k
-
           at : (i : ℕ) → i < suc j → numbers t x i ≡ numbers t y i
           at zero k = sym ex ∙ ey
           at (suc i) k = of-x i (omega arith) ∙ e i (omega arith) ∙ sym (of-y i (omega arith))
+
+    -- States with the same numbers have the same labels.
+    pub labels-same : Same (numbers t x) (numbers t y) → labels t x ≡ labels t y
+    labels-same s = go (decLt word 32768)
+      where
+        go : Dec (word < 32768) → labels t x ≡ labels t y
+        go (yes l) = tags-agree (s 0) l
+        go (no l) =
+            let h : 32768 ≤ word = omega arith in
+            runs-agree (tagOf t 262 x) refl (s 0) h (λ j k. sym (of-x (tagOf t 262 x) refl (s 0) h j k) ∙ s (suc j) ∙ of-y (tagOf t 262 x) refl (s 0) h j k)
+
+  -- The first reached state with the numbers of a reached state is its name.
+  pub first-name : AcceptedTable t → (x r : ℕ) → x < states t → Reached t x → First (numbers t) (Reached t) x r → r ≡ firstName t x
+  first-name A x r hx e F =
+      first-found t A x r (F .below) e
+      (λ z l. bool-false (labelledAs t x z) (λ w.
+      let (a, b) = and-true (reached t (levels t) z) (same (labels t x) (labels t z)) w in
+      F .none z l a (numbers-same x z hx (omega (arith, F .below)) (same-true (labels t x) (labels t z) b))))
+      (ap₂ _&&_ (F .counts) (eq-same (labels t x) (labels t r) (labels-same x r hx (omega (arith, F .below)) (F .same))))
 
 -- In edition 2 the labels of a state stand in the table.
 pub run-inside : (t firsts : List ℕ) (word s : ℕ) → AcceptedTable t → word ≡ number16 t 0 → Firsts t 262 (states t) (editionOf word) firsts → s < states t → 32768 ≤ word

@@ -1,6 +1,6 @@
 // The names with which the reduction begins: each state that is reached is named by the smallest reached state with the same labels, the others by 65535. The states that name a block are kept in the order of their labels, so that each state is held to a few of them only.
 ghost use mathlib.Core.Path.{_≡_};
-ghost use Prim.Native.Nat.{ℕ, _+_, _*_, _≤_, _<_};
+ghost use Prim.Native.Nat.{_+_, _*_, _≤_, _<_};
 ghost use lib.ListN.{length};
 ghost use Rattle.paper.specs.Words.{number16};
 ghost use Rattle.paper.specs.Labels.{editionOf};
@@ -8,15 +8,13 @@ ghost use Rattle.paper.specs.Table.{states};
 ghost use Rattle.facts.proofs.TableFacts.{AcceptedTable};
 ghost use Rattle.labels.specs.Tags.{Firsts};
 ghost use Rattle.reduction.specs.Named.{Named, firstName, MarksReached};
-ghost use Rattle.naming.specs.Ordered.{BeforeIn, Compared, Order};
-ghost use Rattle.naming.specs.Heads.{Heads, Place, PutIn};
+ghost use Rattle.naming.specs.Ordered.{Order, OrderIn, numbers};
+ghost use Rattle.naming.specs.Heads.{Heads, Found, PutIn, With, Reached};
 
 // So many numbers from one place on compared with those from another: 0 where all are the same, else 1 where the first that differs is less, 2 where it is more.
 fn order_of_runs(t: &[u8], from: usize, other: usize, count: usize) -> u16
     requires { ⌜ (from + 2 * count ≤ length (now t)) × (other + 2 * count ≤ length (now t)) ⌝ }
-    ensures { λ r. ⌜ Compared ((j : ℕ) → j < count → number16 (now (t .entry)) (from + 2 * j) ≡ number16 (now (t .entry)) (other + 2 * j))
-        (BeforeIn count (λ j. number16 (now (t .entry)) (from + 2 * j)) (λ j. number16 (now (t .entry)) (other + 2 * j)))
-        (BeforeIn count (λ j. number16 (now (t .entry)) (other + 2 * j)) (λ j. number16 (now (t .entry)) (from + 2 * j))) r ⌝ }
+    ensures { λ r. ⌜ OrderIn count (λ j. number16 (now (t .entry)) (from + 2 * j)) (λ j. number16 (now (t .entry)) (other + 2 * j)) r ⌝ }
 {
     for j in 0..count {
         let a = words::get16(t, from + 2 * j);
@@ -35,7 +33,7 @@ fn order_of_runs(t: &[u8], from: usize, other: usize, count: usize) -> u16
 fn order_of(t: &[u8], word: u16, firsts: &[u16; 512], x: usize, y: usize) -> u16
     requires { ⌜ AcceptedTable (now t) × (word ≡ number16 (now t) 0) × Firsts (now t) 262 (states (now t)) (editionOf word) (now firsts)
         × (x < states (now t)) × (y < states (now t)) ⌝ }
-    ensures { λ r. ⌜ Order (now (t .entry)) x y r ⌝ }
+    ensures { λ r. ⌜ Order (numbers (now (t .entry)) x) (numbers (now (t .entry)) y) r ⌝ }
 {
     let tag = words::get16(t, 262 + 2 * x);
     let mark = words::get16(t, 262 + 2 * y);
@@ -58,7 +56,7 @@ fn order_of(t: &[u8], word: u16, firsts: &[u16; 512], x: usize, y: usize) -> u16
     )
 }
 
-// The place of x among the m heads, by halving.
+// The place of the head that is the same as x, by halving; where there is none, 512 and the place where x goes in.
 fn place_of(
     t: &[u8],
     word: u16,
@@ -68,25 +66,29 @@ fn place_of(
     x: usize,
 ) -> usize
     requires { ⌜ AcceptedTable (now t) × (word ≡ number16 (now t) 0) × Firsts (now t) 262 (states (now t)) (editionOf word) (now firsts)
-        × Heads (now t) (now heads) m x × (x < states (now t)) ⌝ }
-    ensures { λ r. ⌜ Place (now (t .entry)) (now (heads .entry)) m x r ⌝ }
+        × Heads (numbers (now t)) (Reached (now t)) (now heads) m x × (x < states (now t)) ⌝ }
+    ensures { λ r. ⌜ Found (numbers (now (t .entry))) (now (heads .entry)) m x r ⌝ }
 {
     let mut low = 0;
     let mut high = m;
     while low < high {
         let middle = (low + high) / 2;
         let head = heads[middle] as usize;
-        if order_of(t, word, firsts, x, head) == 2 {
+        let order = order_of(t, word, firsts, x, head);
+        if order == 0 {
+            return middle;
+        }
+        if order == 2 {
             low = middle + 1;
         } else {
             high = middle;
         }
     }
-    low
+    512 + low
 }
 
 // Puts x in at a place among m numbers; those from there on go one further.
-fn put_in(heads: &mut [u16; 512], m: usize, place: usize, x: u16)
+pub fn put_in(heads: &mut [u16; 512], m: usize, place: usize, x: u16)
     requires { ⌜ (length (now heads) ≡ 512) × (place ≤ m) × (m < 512) ⌝ }
     ensures { λ _. ⌜ PutIn (now (heads .entry)) (now (heads .exit)) m place x ⌝ }
 {
@@ -108,21 +110,17 @@ fn name_of(
     x: usize,
 ) -> u16
     requires { ⌜ AcceptedTable (now t) × (word ≡ number16 (now t) 0) × Firsts (now t) 262 (states (now t)) (editionOf word) (now firsts)
-        × MarksReached (now t) (now levels) × (length (now heads) ≡ 512) × Heads (now t) (now heads) m x × (x < states (now t)) ⌝ }
-    ensures { λ r. ⌜ (r ≡ firstName (now (t .entry)) x) × (length (now (heads .exit)) ≡ 512)
-        × (r ≡ x → Heads (now (t .entry)) (now (heads .exit)) (m + 1) (x + 1)) × (¬ (r ≡ x) → Heads (now (t .entry)) (now (heads .exit)) m (x + 1)) ⌝ }
+        × MarksReached (now t) (now levels) × (length (now heads) ≡ 512) × Heads (numbers (now t)) (Reached (now t)) (now heads) m x × (x < states (now t)) ⌝ }
+    ensures { λ r. ⌜ (r ≡ firstName (now (t .entry)) x) × With (numbers (now (t .entry))) (Reached (now (t .entry))) (now (heads .exit)) m x r ⌝ }
 {
     if levels[x] == 65535 {
         return 65535;
     }
     let place = place_of(t, word, firsts, heads, m, x);
-    if place < m {
-        let head = heads[place];
-        if order_of(t, word, firsts, x, head as usize) == 0 {
-            return head;
-        }
+    if place < 512 {
+        return heads[place];
     }
-    put_in(heads, m, place, x as u16);
+    put_in(heads, m, place - 512, x as u16);
     x as u16
 }
 

@@ -3,7 +3,7 @@ use mathlib.Core.Path.{_≡_, refl, sym, _∙_}
 use mathlib.Core.Bool.{Bool, true, false, true≢false}
 use mathlib.Core.Logic.{_⊎_, inl, inr}
 use mathlib.Core.Option.{Option, none, some}
-use Prim.Native.Nat.{ℕ, zero, suc, _+_, _≤_, _<_}
+use Prim.Native.Nat.{ℕ, zero, suc, _≤_, _<_}
 use native.Mathlib.Nat.{not-suc-le-zero}
 use native.Mathlib.Decide.{ℕ-discrete}
 use native.Mathlib.Omega.{arith}
@@ -27,14 +27,6 @@ least-found n p m y L h e none-below = go (ℕ-discrete y m)
     go : Dec (y ≡ m) → y ≡ m
     go (yes w) = w
     go (no w) = absurd (true≢false (sym (L .passes) ∙ none-below m (omega (arith, L .least y h e))))
-
--- One number more that does not pass.
-pub none-next : (p : ℕ → Bool) (y : ℕ) → ((z : ℕ) → z < y → p z ≡ false) → p y ≡ false → (z : ℕ) → z < y + 1 → p z ≡ false
-none-next p y h e z l = go (ℕ-discrete z y)
-  where
-    go : Dec (z ≡ y) → p z ≡ false
-    go (yes w) = rw w e
-    go (no w) = h z (omega arith)
 
 module _ (p : ℕ → Bool) where
   -- The first number below n that passes.

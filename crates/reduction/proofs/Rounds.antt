@@ -1,9 +1,9 @@
--- One round on an array of names: the first state alike, as a search over rising states finds it, is the name after the round.
+-- One round on an array of names: the first state alike is the name after the round.
 use mathlib.Core.Path.{_≡_, refl, sym, ap, ap₂, _∙_, subst}
 use mathlib.Core.Bool.{Bool, true, false, cond, _&&_}
 use mathlib.Core.List.{List}
 use mathlib.Core.Option.{Option, none, some}
-use Prim.Native.Nat.{ℕ, zero, suc, _+_, _≤_, _<_}
+use Prim.Native.Nat.{ℕ, zero, suc, _≤_, _<_}
 use native.Mathlib.Omega.{arith}
 use lib.Dec.{eqb}
 use lib.ListN.{getD}
@@ -15,7 +15,7 @@ use Rattle.paper.specs.Reduce.{reached, alike, blocks}
 use Rattle.paper.proofs.Below.{and-true, every-all, bool-false}
 use Rattle.facts.proofs.TableFacts.{AcceptedTable}
 use Rattle.reduction.specs.Named.{Named, Refines, meets, NoneBelow, firstAlike, nameAfter}
-use Rattle.reduction.proofs.Firsts.{Least, first-least, least-found, none-next}
+use Rattle.reduction.proofs.Firsts.{Least, first-least, least-found}
 use Rattle.reduction.proofs.Blocks.{blockAt, joins, block-least}
 use Rattle.reduction.proofs.Stable.{name-le, name-reached, name-named}
 use Rattle.reduction.proofs.Reach.{closed, reached-below}
@@ -33,14 +33,6 @@ module _ (t p : List ℕ) where
       eqb-true (getD p x 0) (getD p y 0)
       (and-true (eqb (getD p x 0) (getD p y 0)) (every (classes t) (λ c. eqb (getD p (next t x c) 0) (getD p (next t y c) 0))) e .0)
 
-  -- States with different names are not alike.
-  pub names-differ : (x y : ℕ) → ¬ (getD p x 0 ≡ getD p y 0) → false ≡ meets t p x y
-  names-differ x y ne = sym (bool-false (meets t p x y) (λ e. ne (meets-name x y e)))
-
-  -- States with one name are alike where their next states have one name on every class.
-  pub names-agree : (x y k : ℕ) (r : Bool) → k ≡ classes t → getD p x 0 ≡ getD p y 0 → r ≡ every k (λ c. eqb (getD p (next t x c) 0) (getD p (next t y c) 0)) → r ≡ meets t p x y
-  names-agree x y k r K e q = q ∙ rw (K, eq-eqb (getD p x 0) (getD p y 0) e) refl
-
   -- The first that is alike is the smallest.
   first-alike : (x : ℕ) → Least (suc x) (meets t p x) (firstAlike t p x)
   unfolding firstAlike
@@ -52,17 +44,9 @@ module _ (t p : List ℕ) where
       same none b e = rw e
       same (some y) b e = refl
 
-  -- One state more that is not alike.
-  pub none-more : (x y : ℕ) → NoneBelow t p x y → meets t p x y ≡ false → NoneBelow t p x (y + 1)
-  none-more x y h e = none-next (meets t p x) y h e
-
   -- A state that is alike, where none before it is, is the first.
   pub search-found : (x y : ℕ) → y ≤ x → NoneBelow t p x y → meets t p x y ≡ true → y ≡ firstAlike t p x
   search-found x y h n e = least-found (suc x) (meets t p x) (firstAlike t p x) y (first-alike x) (omega arith) e n
-
-  -- Where none before x is alike it is x.
-  pub search-none : (x : ℕ) → NoneBelow t p x x → x ≡ firstAlike t p x
-  search-none x n = search-found x x (omega arith) n (meets-self x)
 
   -- A state without a name gets none.
   pub after-none : (x : ℕ) → getD p x 0 ≡ 65535 → 65535 ≡ nameAfter t p x
@@ -111,18 +95,9 @@ module _ (t p : List ℕ) where
           let r = name-given z (omega (arith, name-head .0)) (λ w. ne (q ∙ w)) in
           omega (arith, q, name-small z r .0))
 
-      -- A state that names its block keeps its name.
-      pub after-self : getD p x 0 ≡ x → getD p x 0 ≡ nameAfter t p x
-      after-self q = q ∙ search-none x (λ z l. none-before z (omega arith)) ∙ after-some x ne
-
-      -- So does a state whose next states are named as those of the state that names it.
-      pub after-head : (k : ℕ) → k ≡ classes t → true ≡ every k (λ c. eqb (getD p (next t x c) 0) (getD p (next t (getD p x 0) c) 0)) → getD p x 0 ≡ nameAfter t p x
-      after-head k K q =
-          search-found x (getD p x 0) (name-head .0) none-before (sym (names-agree x (getD p x 0) k true K (name-head .2) q)) ∙ after-some x ne
-
-      -- Any other state may begin its search behind that state.
-      pub search-from : (k : ℕ) → k ≡ classes t → false ≡ every k (λ c. eqb (getD p (next t x c) 0) (getD p (next t (getD p x 0) c) 0)) → NoneBelow t p x (getD p x 0 + 1)
-      search-from k K q = none-more x (getD p x 0) none-before (sym (names-agree x (getD p x 0) k false K (name-head .2) q))
+      -- A state that is alike the state that names it keeps its name.
+      pub after-head : meets t p x (getD p x 0) ≡ true → getD p x 0 ≡ nameAfter t p x
+      after-head q = search-found x (getD p x 0) (name-head .0) none-before q ∙ after-some x ne
 
     -- Reached states are alike by the array just where they are by the blocks.
     meets-is : (x y : ℕ) → reached t (levels t) x ≡ true → reached t (levels t) y ≡ true → meets t p x y ≡ alike t (levels t) (blocks t (levels t) i) x y

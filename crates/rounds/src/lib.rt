@@ -1,17 +1,19 @@
 // The rounds of the reduction: from the names by labels to the names after n rounds. A state's name is the smallest reached state of its block, 65535 where the state is not reached.
 ghost use mathlib.Core.Path.{_≡_};
 ghost use Prim.Native.Nat.{_≤_, _<_};
-ghost use lib.Dec.{eqb};
-ghost use lib.ListN.{getD};
-ghost use Rattle.paper.specs.Below.{every, any, differ};
-ghost use Rattle.paper.specs.Table.{states, classes, next};
+ghost use lib.ListN.{length, getD};
+ghost use Rattle.paper.specs.Below.{any, differ};
+ghost use Rattle.paper.specs.Table.{states, classes};
 ghost use Rattle.facts.proofs.TableFacts.{AcceptedTable};
-ghost use Rattle.reduction.specs.Named.{Named, SomeRound, Refines, meets, NoneBelow, firstAlike, nameAfter};
+ghost use Rattle.reduction.specs.Named.{Named, SomeRound, Refines, nameAfter};
+ghost use Rattle.naming.specs.Ordered.{Order, OrderIn};
+ghost use Rattle.naming.specs.Heads.{Heads, Found, With};
+ghost use Rattle.rounds.specs.Steps.{after, steps, HasName};
 
-// The next states of x and y have one name on every class.
-fn same_next(t: &[u8], n: usize, k: usize, name: &[u16; 512], x: usize, y: usize) -> bool
+// The next states of x and y compared by their names: 0 where they have one name on every class, else 1 where on the first that parts them x has the lesser, 2 where y has.
+fn order_of_rows(t: &[u8], n: usize, k: usize, name: &[u16; 512], x: usize, y: usize) -> u16
     requires { ⌜ AcceptedTable (now t) × (n ≡ states (now t)) × (k ≡ classes (now t)) × (x < n) × (y < n) ⌝ }
-    ensures { λ r. ⌜ r ≡ every k (λ c. eqb (getD (now (name .entry)) (next (now (t .entry)) x c) 0) (getD (now (name .entry)) (next (now (t .entry)) y c) 0)) ⌝ }
+    ensures { λ r. ⌜ OrderIn k (after (now (t .entry)) (now (name .entry)) x) (after (now (t .entry)) (now (name .entry)) y) r ⌝ }
 {
     for c in 0..k {
         let a = table::next_state(t, n, k, x, c) as usize;
@@ -19,55 +21,94 @@ fn same_next(t: &[u8], n: usize, k: usize, name: &[u16; 512], x: usize, y: usize
         let p = name[a];
         let q = name[b];
         if p != q {
-            return false;
+            if p < q {
+                return 1;
+            }
+            return 2;
         }
     }
-    true
+    0
 }
 
-// The states x and y have one name, and so have their next states.
-fn alike(t: &[u8], n: usize, k: usize, name: &[u16; 512], x: usize, y: usize) -> bool
+// The states x and y compared: their names, then those of their next states.
+fn order_of(t: &[u8], n: usize, k: usize, name: &[u16; 512], x: usize, y: usize) -> u16
     requires { ⌜ AcceptedTable (now t) × (n ≡ states (now t)) × (k ≡ classes (now t)) × (x < n) × (y < n) ⌝ }
-    ensures { λ r. ⌜ r ≡ meets (now (t .entry)) (now (name .entry)) x y ⌝ }
+    ensures { λ r. ⌜ Order (steps (now (t .entry)) (now (name .entry)) x) (steps (now (t .entry)) (now (name .entry)) y) r ⌝ }
 {
     let p = name[x];
     let q = name[y];
-    if p != q {
-        return false;
+    if p < q {
+        return 1;
     }
-    same_next(t, n, k, name, x, y)
+    if q < p {
+        return 2;
+    }
+    order_of_rows(t, n, k, name, x, y)
 }
 
-// The first state from `from` on that is alike x; none before it is.
-fn search(t: &[u8], n: usize, k: usize, name: &[u16; 512], from: usize, x: usize) -> usize
-    requires { ⌜ AcceptedTable (now t) × (n ≡ states (now t)) × (k ≡ classes (now t)) × (x < n) × (from ≤ x) × NoneBelow (now t) (now name) x from ⌝ }
-    ensures { λ r. ⌜ (r ≡ firstAlike (now (t .entry)) (now (name .entry)) x) × (r < 512) ⌝ }
+// The place of the head that is the same as x, by halving; where there is none, 512 and the place where x goes in.
+fn place_of(
+    t: &[u8],
+    n: usize,
+    k: usize,
+    name: &[u16; 512],
+    heads: &[u16; 512],
+    m: usize,
+    x: usize,
+) -> usize
+    requires { ⌜ AcceptedTable (now t) × (n ≡ states (now t)) × (k ≡ classes (now t)) × (x < n)
+        × Heads (steps (now t) (now name)) (HasName (now name)) (now heads) m x ⌝ }
+    ensures { λ r. ⌜ Found (steps (now (t .entry)) (now (name .entry))) (now (heads .entry)) m x r ⌝ }
 {
-    for y in from..x {
-        if alike(t, n, k, name, x, y) {
-            return y;
+    let mut low = 0;
+    let mut high = m;
+    while low < high {
+        let middle = (low + high) / 2;
+        let head = heads[middle] as usize;
+        let order = order_of(t, n, k, name, x, head);
+        if order == 0 {
+            return middle;
+        }
+        if order == 2 {
+            low = middle + 1;
+        } else {
+            high = middle;
         }
     }
-    x
+    512 + low
 }
 
-// The name of x after the round: the state that names its block now where that is x or its next states are named as those of x, else the first state behind it that is alike.
-fn name_after(t: &[u8], n: usize, k: usize, name: &[u16; 512], x: usize) -> u16
-    requires { ⌜ AcceptedTable (now t) × (n ≡ states (now t)) × (k ≡ classes (now t)) × (x < n) × SomeRound (now t) (now name) ⌝ }
-    ensures { λ r. ⌜ r ≡ nameAfter (now (t .entry)) (now (name .entry)) x ⌝ }
+// The name of x after the round: the state that names its block now where x goes on as that state does, else the head that does. Where there is none x becomes one.
+fn name_after(
+    t: &[u8],
+    n: usize,
+    k: usize,
+    name: &[u16; 512],
+    heads: &mut [u16; 512],
+    m: usize,
+    x: usize,
+) -> u16
+    requires { ⌜ AcceptedTable (now t) × (n ≡ states (now t)) × (k ≡ classes (now t)) × (x < n) × SomeRound (now t) (now name)
+        × (length (now heads) ≡ 512) × Heads (steps (now t) (now name)) (HasName (now name)) (now heads) m x ⌝ }
+    ensures { λ r. ⌜ (r ≡ nameAfter (now (t .entry)) (now (name .entry)) x)
+        × With (steps (now (t .entry)) (now (name .entry))) (HasName (now (name .entry))) (now (heads .exit)) m x r ⌝ }
 {
     let p = name[x];
     if p == 65535 {
         return 65535;
     }
-    let head = p as usize;
-    if head == x {
-        return p;
+    let block = p as usize;
+    if block < x {
+        if order_of(t, n, k, name, x, block) == 0 {
+            return p;
+        }
     }
-    if same_next(t, n, k, name, x, head) {
-        return p;
+    let place = place_of(t, n, k, name, heads, m, x);
+    if place < 512 {
+        return heads[place];
     }
-    search(t, n, k, name, head + 1, x) as u16
+    naming::put_in(heads, m, place - 512, x as u16);
+    x as u16
 }
 
 // One round: the names after it.
@@ -76,8 +117,13 @@ fn round(t: &[u8], n: usize, k: usize, name: &[u16; 512]) -> [u16; 512]
     ensures { λ r. ⌜ Refines (now (t .entry)) (now (name .entry)) r ⌝ }
 {
     let mut after = [65535u16; 512];
+    let mut heads = [0u16; 512];
+    let mut m = 0;
     for x in 0..n {
-        let p = name_after(t, n, k, name, x);
+        let p = name_after(t, n, k, name, &mut heads, m, x);
+        if p as usize == x {
+            m += 1;
+        }
         after[x] = p;
     }
     after
@@ -98,7 +144,7 @@ fn changed(p: &[u16; 512], q: &[u16; 512], n: usize) -> bool
     false
 }
 
-// Rounds until nothing changes: the names after n rounds. A round compares each state with the smallest of its block; what else it compares is parted for good, so all rounds together compare each pair at most once more.
+// Rounds until nothing changes: the names after n rounds. A round compares each state with the smallest of its block, and where they part with a few heads only.
 pub fn refine(t: &[u8], n: usize, k: usize, first: [u16; 512]) -> [u16; 512]
     requires { ⌜ AcceptedTable (now t) × (n ≡ states (now t)) × (k ≡ classes (now t)) × Named (now t) 0 first ⌝ }
     ensures { λ r. ⌜ Named (now (t .entry)) n r ⌝ }

@@ -13,13 +13,14 @@ use Rattle.facts.proofs.TableFacts.{table-few-labels}
 use Rattle.labels.specs.Tags.{Firsts}
 use Rattle.reduction.specs.Named.{firstName}
 use Rattle.reduction.proofs.FirstNames.{first-named}
-use Rattle.naming.specs.Heads.{Heads}
+use Rattle.naming.specs.Ordered.{numbers}
+use Rattle.naming.specs.Heads.{Heads, Reached}
 use Rattle.naming.proofs.Heads.{heads-none}
 use Rattle.naming.proofs.first_names.Statement.{statement}
 use Rattle.naming.proofs.first_names.Tie as tie
 
 abbrev Inv-loop : tie.InvT-loop
-Inv-loop t word n levels firsts name₀ heads₀ m₀ x₀ name heads m x = Fills (firstName t) name x × (length heads ≡ 512) × Heads t heads m x
+Inv-loop t word n levels firsts name₀ heads₀ m₀ x₀ name heads m x = Fills (firstName t) name x × (length heads ≡ 512) × Heads (numbers t) (Reached t) heads m x
 
 abbrev μ-loop : tie.MeasureT-loop
 μ-loop t word n levels firsts name₀ heads₀ m₀ x₀ name heads m x = n - x
@@ -47,7 +48,7 @@ inside c =
     (omega (arith, s .pre .2, c .loop-test .taken), omega (arith, s .pre .0 .few-states, s .pre .2, c .loop-test .taken))
 
 loop-holds : tie.Need-loop-holds Inv-loop μ-loop
-loop-holds c = (fills-none refl, refl, heads-none _ _)
+loop-holds c = (fills-none refl, refl, heads-none _ _ _)
 
 name-of-requires : tie.Need-name-of-requires Inv-loop μ-loop
 name-of-requires c κs =
@@ -82,8 +83,8 @@ loop-again c =
     let l = at .before in
     let E = g .name-of .ensures in (
       fills-more (l .loop .inv .0) (inside at .1) (E .0),
-      E .1,
-      ⊎-elim (λ w. rw (w .1) (E .2 (w .0 .taken))) (λ w. rw (w .1) (E .3 (w .0 .left))) (c .if1 .came),
+      E .1 .0,
+      ⊎-elim (λ w. rw (w .1) (E .1 .1 (w .0 .taken))) (λ w. rw (w .1) (E .1 .2 (w .0 .left))) (c .if1 .came),
     )
 
 returns : tie.Need-returns Inv-loop μ-loop

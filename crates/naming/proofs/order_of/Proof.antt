@@ -8,7 +8,7 @@ use lib.ListN.{length, getD}
 use Rattle.paper.specs.Words.{number16}
 use Rattle.paper.specs.Table.{states}
 use Rattle.naming.proofs.Ordered.{is-same, is-less, is-more}
-use Rattle.naming.proofs.Labels.{tags-less, tags-agree, runs-agree, runs-less, run-inside}
+use Rattle.naming.proofs.Labels.{tags-less, numbers-same, tags-agree, runs-agree, runs-less, run-inside}
 use Rattle.naming.proofs.order_of.Statement.{statement}
 use Rattle.naming.proofs.order_of.Tie as tie
 
@@ -52,8 +52,9 @@ returns-3 c =
     let two = e .before .before in
     let s = two .before .before .before in
     let a = s .args in
-    is-same (tags-agree (now (a .t)) (now (a .firsts)) (a .word) (s .pre .1) (s .pre .2) (a .x) (a .y) (s .pre .3) (s .pre .4)
-    (sym (two .before .get16 .ensures) ∙ tags-one e ∙ two .get162 .ensures) (c .if3 .taken))
+    is-same (numbers-same (now (a .t)) (now (a .firsts)) (a .word) (s .pre .1) (s .pre .2) (a .x) (a .y) (s .pre .3) (s .pre .4)
+    (tags-agree (now (a .t)) (now (a .firsts)) (a .word) (s .pre .1) (s .pre .2) (a .x) (a .y) (s .pre .3) (s .pre .4)
+    (sym (two .before .get16 .ensures) ∙ tags-one e ∙ two .get162 .ensures) (c .if3 .taken)))
 
 mul-from : tie.Need-mul-from
 mul-from c = search needs
@@ -124,7 +125,8 @@ returns-4 c =
     let h = e .if3 .left in
     let C = c .order-of-runs .ensures in record {
       few = C .few;
-      same = λ q. runs-agree (now (a .t)) (now (a .firsts)) (a .word) (s .pre .1) (s .pre .2) (a .x) (a .y) (s .pre .3) (s .pre .4) tag ex ey h (C .same q);
+      same = λ q. numbers-same (now (a .t)) (now (a .firsts)) (a .word) (s .pre .1) (s .pre .2) (a .x) (a .y) (s .pre .3) (s .pre .4)
+          (runs-agree (now (a .t)) (now (a .firsts)) (a .word) (s .pre .1) (s .pre .2) (a .x) (a .y) (s .pre .3) (s .pre .4) tag ex ey h (C .same q));
       less = λ q. runs-less (now (a .t)) (now (a .firsts)) (a .word) (s .pre .1) (s .pre .2) (a .x) (a .y) (s .pre .3) (s .pre .4) tag ex ey h (C .less q);
       more = λ q. runs-less (now (a .t)) (now (a .firsts)) (a .word) (s .pre .1) (s .pre .2) (a .y) (a .x) (s .pre .4) (s .pre .3) tag ey ex h (C .more q);
     }

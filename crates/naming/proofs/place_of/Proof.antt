@@ -1,13 +1,13 @@
--- The invariant of the loop: the first low heads come before x, and none from high on does.
+-- The invariant of the loop: the first low heads come before x, and x comes before those from high on.
+use mathlib.Core.Path.{_≡_, subst}
 use Prim.Native.Nat.{ℕ, _+_, _-_, _/_, _≤_, _<_}
 use native.Mathlib.Omega.{arith}
 use denote.Ref.{now}
 use lib.ListN.{getD}
 use Rattle.paper.specs.Table.{states}
-use Rattle.naming.specs.Ordered.{numbers, Before}
-use Rattle.naming.proofs.Ordered.{not-more}
-use Rattle.naming.proofs.Labels.{numbers-same}
-use Rattle.naming.proofs.Heads.{all-before, none-before}
+use Rattle.naming.specs.Ordered.{Before, numbers}
+use Rattle.naming.specs.Heads.{Place, Reached}
+use Rattle.naming.proofs.Heads.{all-before, all-behind}
 use Rattle.naming.proofs.place_of.Statement.{statement}
 use Rattle.naming.proofs.place_of.Tie as tie
 
@@ -15,7 +15,7 @@ abbrev Inv-loop : tie.InvT-loop
 Inv-loop t word firsts heads m x low₀ high₀ low high =
     (low ≤ high) × (high ≤ m)
     × ((i : ℕ) → i < low → Before (numbers t (getD heads i 0)) (numbers t x))
-    × ((i : ℕ) → high ≤ i → i < m → ¬ Before (numbers t (getD heads i 0)) (numbers t x))
+    × ((i : ℕ) → high ≤ i → i < m → Before (numbers t x) (numbers t (getD heads i 0)))
 
 abbrev μ-loop : tie.MeasureT-loop
 μ-loop t word firsts heads m x low₀ high₀ low high = high - low
@@ -59,15 +59,22 @@ order-of-requires c κs =
     let s = start (c .before .before) in
     (s .pre .0, s .pre .1, s .pre .2, s .pre .4, inside (c .before) .5)
 
+returns : tie.Need-returns Inv-loop μ-loop
+returns c =
+    let g = c .before in
+    let at = g .before .before in
+    let (_, _, k, m, x, _) = inside at in
+    (λ _. (k, g .order-of .ensures .same (c .if1 .taken)), λ h. absurd (omega (arith, k, m, x)))
+
 add-low : tie.Need-add-low Inv-loop μ-loop
-add-low c = omega (arith, inside (c .before .before .before))
+add-low c = omega (arith, inside (c .before .before .before .before))
 
 loop-less : tie.Need-loop-less Inv-loop μ-loop
-loop-less c = omega (arith, inside (c .before .before .before))
+loop-less c = omega (arith, inside (c .before .before .before .before))
 
 loop-again : tie.Need-loop-again Inv-loop μ-loop
 loop-again c =
-    let g = c .before in
+    let g = c .before .before in
     let at = g .before .before in
     let l = at .before in
     let s = start l in
@@ -75,35 +82,41 @@ loop-again c =
     let (_, h, k, _, _, _) = inside at in (
       omega arith,
       l .loop .inv .1,
-      all-before (now (a .t)) (now (a .heads)) (a .m) (a .x) (s .pre .3) ((l .loop .low + l .loop .high) / 2) k (g .order-of .ensures .more (c .if1 .taken)),
+      all-before (numbers (now (a .t))) (Reached (now (a .t))) (now (a .heads)) (a .m) (a .x) (s .pre .3) ((l .loop .low + l .loop .high) / 2) k (g .order-of .ensures .more (c .if2 .taken)),
       l .loop .inv .3,
     )
 
 loop-less-2 : tie.Need-loop-less-2 Inv-loop μ-loop
-loop-less-2 c = omega (arith, inside (c .before .before .before))
+loop-less-2 c = omega (arith, inside (c .before .before .before .before))
 
 loop-again-2 : tie.Need-loop-again-2 Inv-loop μ-loop
 loop-again-2 c =
-    let g = c .before in
+    let g = c .before .before in
     let at = g .before .before in
     let l = at .before in
     let s = start l in
     let a = s .args in
-    let t = now (a .t) in
-    let middle = (l .loop .low + l .loop .high) / 2 in
-    let head = getD (now (a .heads)) middle 0 in
-    let (low, _, k, _, _, small) = inside at in (
+    let O = g .order-of .ensures in
+    let one : g .order-of .result ≡ 1 = omega (arith, O .few, c .before .if1 .left, c .if2 .left) in
+    let (low, _, k, _, _, _) = inside at in (
       low,
       omega (arith, k),
       l .loop .inv .2,
-      none-before t (now (a .heads)) (a .m) (a .x) (s .pre .3) middle
-          (not-more (numbers t (a .x)) (numbers t head) (g .order-of .result) (g .order-of .ensures) (numbers-same t (now (a .firsts)) (a .word) (s .pre .1) (s .pre .2) (a .x) head (s .pre .4) small) (c .if1 .left)),
+      all-behind (numbers (now (a .t))) (Reached (now (a .t))) (now (a .heads)) (a .m) (a .x) (s .pre .3) ((l .loop .low + l .loop .high) / 2) (O .less one),
     )
 
-returns : tie.Need-returns Inv-loop μ-loop
-returns c =
+add-result : tie.Need-add-result Inv-loop μ-loop
+add-result c = let l = c .before in let s = start l in omega (arith, l .loop .inv, s .pre .3 .few, s .pre .4, s .pre .0 .few-states)
+
+returns-2 : tie.Need-returns-2 Inv-loop μ-loop
+returns-2 c =
     let l = c .before .loop in
-    record { inside = omega (arith, l .inv); before = l .inv .2; behind = λ i h k. l .inv .3 i (omega (arith, c .loop-test .left)) k }
+    let a = start (c .before) .args in
+    let e : l .low ≡ 512 + l .low - 512 = omega arith in (
+      λ h. absurd (omega arith),
+      λ _. subst (Place (numbers (now (a .t))) (now (a .heads)) (a .m) (a .x)) e
+          (record { inside = omega (arith, l .inv); before = l .inv .2; behind = λ i h k. l .inv .3 i (omega (arith, c .loop-test .left)) k }),
+    )
 
 pub place-of-spec : {M : Type 1} → statement M
 place-of-spec =
@@ -117,9 +130,11 @@ place-of-spec =
     element-copy-out-head
     cast-head
     order-of-requires
+    returns
     add-low
     loop-less
     loop-again
     loop-less-2
     loop-again-2
-    returns)
+    add-result
+    returns-2)

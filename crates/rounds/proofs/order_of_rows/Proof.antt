@@ -1,26 +1,23 @@
 -- The invariant of the loop: on the classes before c the next states have one name.
-use mathlib.Core.Path.{_≡_, refl}
-use mathlib.Core.Bool.{true}
+use mathlib.Core.Path.{_≡_, sym, ap}
 use Prim.Native.Nat.{ℕ, _-_, _≤_, _<_}
 use native.Mathlib.Omega.{arith}
 use denote.Ref.{now}
-use lib.Dec.{eqb}
 use lib.ListN.{getD}
-use Rattle.paper.specs.Below.{every}
-use Rattle.paper.specs.Table.{next}
 use Rattle.table.proofs.Next.{accepted-counted}
-use Rattle.reduction.proofs.Changed.{agree-more, agree-not, agree-all}
-use Rattle.rounds.proofs.same_next.Statement.{statement}
-use Rattle.rounds.proofs.same_next.Tie as tie
+use Rattle.naming.proofs.Ordered.{is-same, is-less, is-more, run-more, run-parts}
+use Rattle.rounds.specs.Steps.{after}
+use Rattle.rounds.proofs.order_of_rows.Statement.{statement}
+use Rattle.rounds.proofs.order_of_rows.Tie as tie
 
 abbrev Inv-loop : tie.InvT-loop
-Inv-loop t n k name x y c₀ c = (c ≤ k) × (every c (λ d. eqb (getD name (next t x d) 0) (getD name (next t y d) 0)) ≡ true)
+Inv-loop t n k name x y c₀ c = (c ≤ k) × ((d : ℕ) → d < c → after t name x d ≡ after t name y d)
 
 abbrev μ-loop : tie.MeasureT-loop
 μ-loop t n k name x y c₀ c = k - c
 
 loop-holds : tie.Need-loop-holds Inv-loop μ-loop
-loop-holds c = (omega arith, refl)
+loop-holds c = (omega arith, λ d h. absurd (omega arith))
 
 next-state-requires : tie.Need-next-state-requires Inv-loop μ-loop
 next-state-requires c κs =
@@ -66,15 +63,32 @@ mul-q c = omega (arith, small₂ (c .before))
 element-copy-out-q : tie.Need-element-copy-out-q Inv-loop μ-loop
 element-copy-out-q c = omega (arith, small₂ (c .before))
 
+-- What is compared are the names of the next states of x and y.
+read : (two : tie.After-next-state2 Inv-loop μ-loop) → let l = two .before .before .before in let a = l .before .before .args in
+    (getD (now (a .name)) (two .before .next-state .result) 0 ≡ after (now (a .t)) (now (a .name)) (a .x) (l .loop .c))
+    × (getD (now (a .name)) (two .next-state2 .result) 0 ≡ after (now (a .t)) (now (a .name)) (a .y) (l .loop .c))
+read two =
+    let l = two .before .before .before in
+    let a = l .before .before .args in
+    (ap (λ (s : ℕ). getD (now (a .name)) s 0) (two .before .next-state .ensures), ap (λ (s : ℕ). getD (now (a .name)) s 0) (two .next-state2 .ensures))
+
 returns : tie.Need-returns Inv-loop μ-loop
 returns c =
-    let two = c .before .before .before in
+    let two = c .before .before .before .before in
     let at = two .before .before in
     let l = at .before in
     let a = l .before .before .args in
-    let names : ℕ → ℕ → ℕ = λ z d. getD (now (a .name)) (next (now (a .t)) z d) 0 in
-    agree-not (names (a .x)) (names (a .y)) (a .k) (l .loop .c) (at .loop-test .taken)
-    (λ q. c .if1 .taken (rw (two .before .next-state .ensures, two .next-state2 .ensures) q))
+    is-less (run-parts (after (now (a .t)) (now (a .name)) (a .x)) (after (now (a .t)) (now (a .name)) (a .y)) (a .k) (l .loop .c) (l .loop .inv .1) (at .loop-test .taken) (omega (arith, read two, c .if2 .taken)))
+
+returns-2 : tie.Need-returns-2 Inv-loop μ-loop
+returns-2 c =
+    let two = c .before .before .before .before in
+    let at = two .before .before in
+    let l = at .before in
+    let a = l .before .before .args in
+    is-more
+    (run-parts (after (now (a .t)) (now (a .name)) (a .y)) (after (now (a .t)) (now (a .name)) (a .x)) (a .k) (l .loop .c) (λ d h. sym (l .loop .inv .1 d h)) (at .loop-test .taken)
+    (omega (arith, read two, c .before .if1 .taken, c .if2 .left)))
 
 add-c : tie.Need-add-c Inv-loop μ-loop
 add-c c = omega (arith, c .before .before .before .before .before)
@@ -88,18 +102,15 @@ loop-again c =
     let at = two .before .before in
     let l = at .before in
     let a = l .before .before .args in
-    let names : ℕ → ℕ → ℕ = λ z d. getD (now (a .name)) (next (now (a .t)) z d) 0 in
-    (omega (arith, at), agree-more (names (a .x)) (names (a .y)) (l .loop .c) (l .loop .inv .1) (rw (← two .before .next-state .ensures, ← two .next-state2 .ensures) (c .if1 .left)))
+    (omega (arith, at), run-more (after (now (a .t)) (now (a .name)) (a .x)) (after (now (a .t)) (now (a .name)) (a .y)) (a .k) (l .loop .c) (l .loop .inv .1) (omega (arith, read two, c .if1 .left)))
 
-returns-2 : tie.Need-returns-2 Inv-loop μ-loop
-returns-2 c =
+returns-3 : tie.Need-returns-3 Inv-loop μ-loop
+returns-3 c =
     let l = c .before in
-    let a = l .before .before .args in
-    let names : ℕ → ℕ → ℕ = λ z d. getD (now (a .name)) (next (now (a .t)) z d) 0 in
-    agree-all (names (a .x)) (names (a .y)) (a .k) (l .loop .c) (l .loop .inv .0) (c .loop-test .left) (l .loop .inv .1)
+    is-same (λ d h. l .loop .inv .1 d (omega (arith, c .loop-test .left)))
 
-pub same-next-spec : {M : Type 1} → statement M
-same-next-spec =
+pub order-of-rows-spec : {M : Type 1} → statement M
+order-of-rows-spec =
     tie.close
     (tie.spec
     Inv-loop
@@ -114,7 +125,8 @@ same-next-spec =
     mul-q
     element-copy-out-q
     returns
+    returns-2
     add-c
     loop-less
     loop-again
-    returns-2)
+    returns-3)
