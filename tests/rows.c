@@ -1,6 +1,6 @@
 /* The sampled rows: random tables of 1 to 12 states, of edition 2 in the last files, damaged ones too, and what the independent reading answers and writes in every case, as
  * definitions for the prover. Writes Sample1.antt and so on into the folder that it is given: the same bytes at every run and by every compiler, so
- * no expression takes two random numbers whose order C leaves open. */
+ * no expression takes two random numbers whose order C leaves open. Every image that the reading makes on the way goes to the other edition and back by the archive. */
 #include <stdarg.h>
 #include <stdio.h>
 #include <stdlib.h>
@@ -8,6 +8,7 @@
 
 #include "reference/reference.h"
 #include "support.h"
+#include "there_and_back.h"
 
 /* Stands in a text where the next item of a list begins. */
 enum { ITEM = 1 };
@@ -32,7 +33,7 @@ static FILE *file;
 static piece table, images[MOST_IMAGES];
 static size_t image_count;
 static uint32_t order; /* of the forest, in the rows that are made now */
-static uint64_t rows, rows_here, broken, cases, bound_decides, order_decides, given[26];
+static uint64_t rows, rows_here, broken, cases, bound_decides, order_decides, moved, given[26];
 
 /* A field's text grows here until it is set in lines. */
 static char text[1 << 18], case_text[1 << 18];
@@ -135,6 +136,12 @@ static void rest_stays(const piece *room, size_t written) {
     if (memcmp(room->bytes + written, fresh.bytes + written, room->length - written)) fail("the rest of a room", cases);
 }
 
+/* An image that the reading made goes there and back; answers its length, and 0 where it made none. */
+static size_t shown(reference_built r, const uint8_t *bytes) {
+    if (r.length) moved += (uint64_t)there_and_back(bytes, r.length, cases);
+    return r.length;
+}
+
 /* The number of an image, kept once. */
 static size_t kept(const uint8_t *bytes, size_t length) {
     for (size_t i = 0; i < image_count; i++)
@@ -155,7 +162,7 @@ static void counted(uint32_t refused) {
 static void built_image(reference_built r, const piece *room) {
     CASE("%zu (%u ∷ %u ∷ []) ", room->length, r.refused, r.length);
     rest_stays(room, r.length);
-    if (r.length)
+    if (shown(r, room->bytes))
         CASE("(theImage %zu)", kept(room->bytes, r.length));
     else
         CASE("nothing");
@@ -176,7 +183,7 @@ static void writes(const uint8_t *list, size_t length, size_t room_length) {
     reference_built r = reference_write(table.bytes, table.length, list, length, room.bytes, room.length);
     /* The image of a list that is refused only for defaults not worth their hops is kept as well, to be judged, expanded and scanned. */
     piece before;
-    if (r.refused == 25) before.length = reference_image(table.bytes, table.length, list, length, before.bytes, MOST_BYTES).length;
+    if (r.refused == 25) before.length = shown(reference_image(table.bytes, table.length, list, length, before.bytes, MOST_BYTES), before.bytes);
     if (r.refused == 25 && room.length >= before.length) kept(before.bytes, before.length);
     built_image(r, &room);
 }
@@ -404,17 +411,17 @@ static void begin_row(void) {
 /* Whether compact in an order gives another image than in order 0. */
 static int decides(uint32_t in_order, uint32_t bound) {
     piece by_order, by_pairs;
-    by_order.length = reference_compact(table.bytes, table.length, in_order, bound, by_order.bytes, MOST_BYTES).length;
-    by_pairs.length = reference_compact(table.bytes, table.length, 0, bound, by_pairs.bytes, MOST_BYTES).length;
+    by_order.length = shown(reference_compact(table.bytes, table.length, in_order, bound, by_order.bytes, MOST_BYTES), by_order.bytes);
+    by_pairs.length = shown(reference_compact(table.bytes, table.length, 0, bound, by_pairs.bytes, MOST_BYTES), by_pairs.bytes);
     return by_order.length != by_pairs.length || memcmp(by_order.bytes, by_pairs.bytes, by_order.length);
 }
 
 /* Compact with a room of the length that it takes or a longer one, or with a shorter one. */
 static void some_compact(uint32_t bound, int short_room) {
     piece trial, free_one;
-    size_t length = reference_compact(table.bytes, table.length, order, 65535, free_one.bytes, MOST_BYTES).length;
+    size_t length = shown(reference_compact(table.bytes, table.length, order, 65535, free_one.bytes, MOST_BYTES), free_one.bytes);
     free_one.length = length;
-    length = reference_compact(table.bytes, table.length, order, bound, trial.bytes, MOST_BYTES).length;
+    length = shown(reference_compact(table.bytes, table.length, order, bound, trial.bytes, MOST_BYTES), trial.bytes);
     bound_decides += bound > 0 && (length != free_one.length || memcmp(trial.bytes, free_one.bytes, length));
     order_decides += order > 0 && decides(order, bound);
     compacts(bound, short_room ? length - 1 - (below(2) ? 0 : below((uint32_t)length)) : length + (below(2) ? 0 : below(9)));
@@ -425,14 +432,14 @@ static void some_write(uint32_t n, int spoil, int short_room) {
     piece trial;
     size_t bytes = some_list(list, n, spoil);
     /* Rooms are as for a list that is taken, so that 25 is seen before 16. */
-    size_t length = reference_image(table.bytes, table.length, list, bytes, trial.bytes, MOST_BYTES).length;
+    size_t length = shown(reference_image(table.bytes, table.length, list, bytes, trial.bytes, MOST_BYTES), trial.bytes);
     if (!length)
         writes(list, bytes, below(2) ? MOST_BYTES / 2 : below(9));
     else
         writes(list, bytes, short_room ? length - 1 - (below(2) ? 0 : below((uint32_t)length)) : length + (below(2) ? 0 : below(9)));
     /* What is left of a list that is 25, where something is, in a room that it fills. */
     if (!length || !leave_worthy(list, table.bytes)) return;
-    length = reference_write(table.bytes, table.length, list, bytes, trial.bytes, MOST_BYTES).length;
+    length = shown(reference_write(table.bytes, table.length, list, bytes, trial.bytes, MOST_BYTES), trial.bytes);
     for (uint32_t s = 0; s < n; s++)
         if (number16(list, 2 * s) != 65535) {
             writes(list, bytes, length);
@@ -547,7 +554,7 @@ static void toward_row(uint32_t n, uint32_t reached, uint32_t wide) {
         uint32_t k = 3 + below(2);
         table.length = make_levels(table.bytes, n, k, 150 + below(80), reached, wide);
         make_runs(k);
-        reference_compact(table.bytes, table.length, 3, bound, trial.bytes, MOST_BYTES);
+        shown(reference_compact(table.bytes, table.length, 3, bound, trial.bytes, MOST_BYTES), trial.bytes);
     } while (number16(trial.bytes, 6) < 2 || !decides(3, bound));
     order = 3;
     some_compact(bound, 0);
@@ -669,8 +676,8 @@ int main(int words, char **word) {
         fprintf(file, "    ∷ []\n");
         if (fclose(file)) fail("a file could not be written", (uint64_t)f);
     }
-    printf("rows: %llu tables, %llu of them damaged, %llu cases; a bound above 0 decides in %llu, an order above 0 in %llu\n  given  ", (unsigned long long)rows,
-           (unsigned long long)broken, (unsigned long long)cases, (unsigned long long)bound_decides, (unsigned long long)order_decides);
+    printf("rows: %llu tables, %llu of them damaged, %llu cases; a bound above 0 decides in %llu, an order above 0 in %llu; %llu images there and back\n  given  ", (unsigned long long)rows,
+           (unsigned long long)broken, (unsigned long long)cases, (unsigned long long)bound_decides, (unsigned long long)order_decides, (unsigned long long)moved);
     for (int r = 0; r < 26; r++)
         if (given[r]) printf(" %d:%llu", r, (unsigned long long)given[r]);
     printf("\n");

@@ -1,5 +1,5 @@
 /* The program `served` against the independent reading, every byte that it prints: images of both editions with payloads of many kinds, damaged images, every cut and every altered byte of an
- * image, counts that lead far past the input, and inputs around 60,000 bytes. */
+ * image, counts that lead far past the input, and inputs around 60,000 bytes. The images that are made here go to the other edition and back by the archive. */
 #include <stdio.h>
 #include <string.h>
 
@@ -8,11 +8,12 @@
 #include "program.h"
 #include "reference/programs.h"
 #include "reference/reference.h"
+#include "there_and_back.h"
 
 enum { LONGEST_INPUT = 60000 };
 
 static uint8_t table[LONGEST_TABLE], image[LONGEST_IMAGE], defaults[1024], input[LONGEST_IMAGE + 2 * LONGEST_INPUT], room[6 * 16 * LONGEST_INPUT];
-static uint64_t cases, given[20], too_long, empty, hops_counted;
+static uint64_t cases, given[20], too_long, empty, hops_counted, moved;
 
 /* What the program prints of the input's first bytes. */
 static void agree(size_t length) {
@@ -25,11 +26,17 @@ static void agree(size_t length) {
     else given[0]++;
 }
 
+/* An image that was made is shown to a loader of the first edition, and goes there and back. */
+static void shown(size_t length) {
+    old_loader(image, length, 0, cases);
+    moved += (uint64_t)there_and_back(image, length, cases);
+}
+
 /* Makes the image of a table of this length with the list of defaults. */
 static size_t written(size_t length) {
     reference_built built = reference_image(table, length, defaults, 2 * (size_t)states_in(table), image, sizeof image);
     if (built.refused) fail("the reference refused its own table", cases);
-    old_loader(image, built.length, 0, cases);
+    shown(built.length);
     return built.length;
 }
 
@@ -42,7 +49,7 @@ static size_t some_image(uint32_t n, uint32_t k) {
     if (n <= 12 && below(2)) {
         uint32_t order = below(4);
         length = reference_compact(table, length, order, below(6), image, sizeof image).length;
-        old_loader(image, length, 0, cases);
+        shown(length);
         return length;
     }
     make_defaults(defaults, n, below(257));
@@ -222,7 +229,7 @@ static void long_chains(uint32_t edition) {
     if (edition == 2) table_length = make_second(table, table_length, 16);
     size_t length = reference_compact(table, table_length, 3, 0, image, sizeof image).length;
     if (edition_in(image) != edition) fail("the stairs are of another edition", edition);
-    old_loader(image, length, 0, cases);
+    shown(length);
     put(length, bytes);
     for (size_t i = 0; i < bytes; i++) input[length + i] = (uint8_t)(i % 512 == 511 ? 11 : below(12) ? 0 : below(12));
     columns_hold(length, bytes);
@@ -245,8 +252,9 @@ int main(int count, char **words) {
     damaged(900);
     for (uint32_t r = 0; r <= 19; r++)
         if (!given[r] && (r <= 13 || r == 19)) fail("a number that was never given", r);
-    if (!too_long || !empty || !hops_counted) fail("too long, an empty payload and a hop are each to be seen", cases);
-    printf("served: %llu texts agree, %llu of them too long, %llu of no payload\n  given  ", (unsigned long long)cases, (unsigned long long)too_long, (unsigned long long)empty);
+    if (!too_long || !empty || !hops_counted || !moved) fail("too long, an empty payload, a hop and an image that was moved are each to be seen", cases);
+    printf("served: %llu texts agree, %llu of them too long, %llu of no payload; %llu images there and back\n  given  ", (unsigned long long)cases, (unsigned long long)too_long,
+           (unsigned long long)empty, (unsigned long long)moved);
     for (int r = 0; r < 20; r++)
         if (given[r]) printf(" %d:%llu", r, (unsigned long long)given[r]);
     printf("\n");
