@@ -2,6 +2,7 @@
 #include <stdio.h>
 #include <string.h>
 
+#include "patches.h"
 #include "plain.h"
 #include "support.h"
 
@@ -76,6 +77,34 @@ static void damage(uint8_t *bytes, size_t from, size_t to) {
     for (uint32_t times = below(4); times; times--) bytes[from + below((uint32_t)(to - from))] = (uint8_t)(below(3) ? below(6) : below(256));
 }
 
+/* A patch that lists some states of an accepted image, with a number or two of theirs made others, and damaged at times; in C an accepted image and an accepted patch are taken. */
+static void same_patched(size_t length, const uint8_t *payload, size_t room_length, uint32_t number) {
+    static parts listing;
+    static uint8_t patch[LONGEST_PATCH];
+    uint32_t n = states_in(image), k = number16(image, 2);
+    listing.p = 0;
+    for (uint32_t times = 1 + below(3); times; times--) {
+        listed *l = list_state(&listing, image, below(n));
+        if (below(3) == 0 && l->count) l->next[below(l->count)] = below(n + (below(8) == 0));
+        if (below(3) == 0 && l->fallback != 65535 && l->count) l->count--;
+        if (below(6) == 0) l->fallback = below(n);
+        if (below(9) == 0 && l->count) l->class[below(l->count)] = below(k);
+    }
+    find_costs(&listing, image);
+    listing.depth += below(12) == 0;
+    size_t patch_length = put_patch(&listing, image, length, patch);
+    if (below(6) == 0) damage(patch, 0, patch_length);
+    if (below(9)) mend_check_word(patch, patch_length);
+    patch_length -= below(20) == 0;
+    uint32_t refused = plain_judge_patch(image, length, patch, patch_length), state = below(n);
+    same("judge a patch", (kamordast_built){kamordast_judge_patch(image, length, patch, patch_length), 0}, (kamordast_built){refused, 0}, number);
+    same("apply", kamordast_apply(image, length, patch, patch_length, by_archive, room_length),
+         refused ? (kamordast_built){refused, 0} : plain_apply(image, length, patch, patch_length, by_c, room_length), number);
+    kamordast_scanned a = kamordast_scan_patched(image, length, patch, patch_length, state, payload, 64, by_archive, room_length % 400), b = {refused, 0, 0, 0, 0};
+    if (!refused) b = IN_EDITION(scan_patched, image, length)(image, length, patch, patch_length, state, payload, 64, by_c, room_length % 400);
+    if (memcmp(&a, &b, sizeof a) || memcmp(by_archive, by_c, ROOM)) fail("the patched scan", number);
+}
+
 int main(void) {
     seed(3);
     for (uint32_t number = 0; number < CASES; number++) {
@@ -118,6 +147,7 @@ int main(void) {
         kamordast_scanned a = kamordast_scan(image, built.length, state, payload, 64, by_archive, room_length % 400);
         kamordast_scanned b = IN_EDITION(scan, image, built.length)(image, built.length, state, payload, 64, by_c, room_length % 400);
         if (memcmp(&a, &b, sizeof a) || memcmp(by_archive, by_c, ROOM)) fail("scan", number);
+        same_patched(built.length, payload, room_length, number);
     }
     printf("plain C and the archive agree on %u small cases; answers by number:", (unsigned)CASES);
     for (uint32_t ground = 0; ground < 29; ground++)

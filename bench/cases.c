@@ -6,6 +6,7 @@
 
 #include "hostile.h"
 #include "operations.h"
+#include "patches.h"
 #include "plain.h"
 #include "word_list.h"
 
@@ -120,6 +121,18 @@ void use_forward(void) {
     given.image_length = built.length;
 }
 
+void use_patch(uint32_t number) {
+    static parts listing;
+    size_t end = strlen(case_name);
+    listing.p = 0;
+    for (uint32_t i = 0; i < number; i++) list_state(&listing, given.image, i * states_in(given.image) / number);
+    listing.depth = number16(given.image, 6);
+    listing.worst = number16(given.image, given.image_length - 4);
+    given.patch_length = put_patch(&listing, given.image, given.image_length, given.patch);
+    if (kamordast_judge_patch(given.image, given.image_length, given.patch, given.patch_length)) fail("the patch is refused", number);
+    snprintf(case_name + end, sizeof case_name - end, ", p %u", (unsigned)number);
+}
+
 void use_unworthy(void) {
     given.table_length = make_unworthy(given.table, given.defaults);
     use_written("256 of 511 defaults not worth it");
@@ -133,6 +146,12 @@ void use_flat(void) {
 void use_chain(void) {
     given.table_length = make_chain(given.table, given.defaults);
     use_written("hostile: the same in one chain of 511");
+}
+
+void use_patched_chain(void) {
+    use_chain();
+    snprintf(case_name, sizeof case_name, "hostile: one chain of 511");
+    use_patch(64);
 }
 
 void use_detour(void) {

@@ -41,6 +41,12 @@ void use_order(uint32_t order);
 /* An image of 512 states and 256 classes, every other of which falls to state 0 and shares one class with it, the others half. */
 void use_unworthy(void);
 
+/* A patch for the image at hand: it lists so many states, evenly from state 0 on, as they stand, so that it makes the image itself. */
+void use_patch(uint32_t number);
+
+/* A patch for the image of 511 defaults in one chain, which lists 64 states of it. */
+void use_patched_chain(void);
+
 /* Images of 512 states with 128 entries each, to judge: all states fall to the root; all in one chain. */
 void use_flat(void);
 void use_chain(void);

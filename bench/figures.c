@@ -186,6 +186,39 @@ static void reduce_rows(const operation *o) {
     row(o);
 }
 
+/* What takes a patch, on both word lists with one state listed and with 64, on the largest table of random rows, in edition 2 with 16 labels on each state, and on the chain. */
+static void patch_rows(const operation *o) {
+    for (uint32_t k = 27; k <= 209; k += 182)
+        for (uint32_t listed = 1; listed <= 64; listed += 63) {
+            use_words(k, 2);
+            use_patch(listed);
+            row(o);
+        }
+    use_largest("random", 3);
+    use_patch(64);
+    row(o);
+    use_full_lists(3);
+    use_patch(64);
+    row(o);
+    use_patched_chain();
+    row(o);
+}
+
+/* A patched scan of both word lists with both payloads, and of the largest table in edition 2: the scans of the images that the patches make, which are the images themselves, have rows of their own. */
+static void patched_runs(const operation *o) {
+    for (uint32_t k = 27; k <= 209; k += 182)
+        for (int near = 0; near < 2; near++)
+            for (uint32_t listed = 1; listed <= 64; listed += 63) {
+                use_words(k, 2);
+                use_payload(near);
+                use_patch(listed);
+                row(o);
+            }
+    use_full_lists(3);
+    use_patch(64);
+    row(o);
+}
+
 int main(void) {
     word_rows(&judging_a_table, 2);
     random_row(&judging_a_table);
@@ -221,6 +254,14 @@ int main(void) {
     scan_rows(&scan_with_judging);
     walk_rows(&walk);
     walk_rows(&walk_with_judging);
+    patch_rows(&judging_a_patch);
+    patch_rows(&apply);
+    patch_rows(&apply_with_judging);
+    patched_runs(&scan_patched);
+    patched_runs(&scan_patched_with_judging);
+    use_detour();
+    use_patch(64);
+    row(&scan_patched);
     use_flat();
     row(&judging_an_image);
     use_chain();

@@ -16,6 +16,7 @@ static kamordast_scanned built(kamordast_built b) { return (kamordast_scanned){b
 #define TABLE given.table, given.table_length
 #define IMAGE given.image, given.image_length
 #define DEFAULTS given.defaults, given.defaults_length
+#define PATCHED given.image, given.image_length, given.patch, given.patch_length
 #define PAYLOAD given.state, given.payload, given.payload_length
 #define ROOM(outcome) outcome.room, sizeof outcome.room
 
@@ -85,6 +86,31 @@ static void judge_and_scan_c(void) {
     by_c.numbers = refused ? answered(refused) : plain_scan(IMAGE, PAYLOAD, ROOM(by_c));
 }
 
+/* The image and the patch judged in C, of either edition. */
+static uint32_t judged_both(void) {
+    uint32_t refused = edition_in(given.image) == 1 ? plain_judge_image(IMAGE) : plain_second_judge_image(IMAGE);
+    return refused ? refused : plain_judge_patch(PATCHED);
+}
+
+static kamordast_scanned patched_scan(void) { return edition_in(given.image) == 1 ? plain_scan_patched(PATCHED, PAYLOAD, ROOM(by_c)) : plain_second_scan_patched(PATCHED, PAYLOAD, ROOM(by_c)); }
+
+static void judge_patch_archive(void) { by_archive.numbers = answered(kamordast_judge_patch(PATCHED)); }
+static void judge_patch_c(void) { by_c.numbers = answered(judged_both()); }
+static void apply_archive(void) { by_archive.numbers = built(kamordast_apply(PATCHED, ROOM(by_archive))); }
+static void apply_c(void) { by_c.numbers = built(plain_apply(PATCHED, ROOM(by_c))); }
+static void scan_patched_archive(void) { by_archive.numbers = kamordast_scan_patched(PATCHED, PAYLOAD, ROOM(by_archive)); }
+static void scan_patched_c(void) { by_c.numbers = patched_scan(); }
+
+static void judge_and_apply_c(void) {
+    uint32_t refused = judged_both();
+    by_c.numbers = refused ? answered(refused) : built(plain_apply(PATCHED, ROOM(by_c)));
+}
+
+static void judge_and_scan_patched_c(void) {
+    uint32_t refused = judged_both();
+    by_c.numbers = refused ? answered(refused) : patched_scan();
+}
+
 static void walk_archive(void) { by_archive.numbers = kamordast_walk(TABLE, PAYLOAD, ROOM(by_archive)); }
 /* Its judging alone, as it stands in the walk: the judge by itself is compiled otherwise. */
 static void walk_nothing(void) { by_archive.numbers = kamordast_walk(TABLE, given.state, given.payload, 0, ROOM(by_archive)); }
@@ -135,6 +161,11 @@ const operation back = {"back, no judging", back_archive, back_c, judge_image_ar
 const operation back_with_judging = {"back", back_archive, judge_and_back_c, NULL, 0};
 const operation scan = {"scan, no judging", scan_archive, scan_c, judge_image_archive, 0};
 const operation scan_with_judging = {"scan with judging", scan_archive, judge_and_scan_c, NULL, 0};
+const operation judging_a_patch = {"judge a patch", judge_patch_archive, judge_patch_c, NULL, 0};
+const operation apply = {"apply, no judging", apply_archive, apply_c, judge_patch_archive, 0};
+const operation apply_with_judging = {"apply", apply_archive, judge_and_apply_c, NULL, 0};
+const operation scan_patched = {"patched, no judging", scan_patched_archive, scan_patched_c, judge_patch_archive, 0};
+const operation scan_patched_with_judging = {"patched scan", scan_patched_archive, judge_and_scan_patched_c, NULL, 0};
 const operation walk = {"walk, no judging", walk_archive, walk_c, walk_nothing, 1};
 const operation walk_with_judging = {"walk with judging", walk_archive, judge_and_walk_c, NULL, 1};
 

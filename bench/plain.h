@@ -1,5 +1,5 @@
 /* What the proved code is measured against: the same work in C, tuned by hand. Each operation answers as the archive's does, on acceptance and refusal
- * alike; only scan, walk, rewrite, reduce and the moves take what was judged before. An operation of edition 1 knows that edition alone, so that it is compiled as it was before there was another; where edition 2
+ * alike; only scan, walk, rewrite, reduce, the moves and all that has a patch take what was judged before. An operation of edition 1 knows that edition alone, so that it is compiled as it was before there was another; where edition 2
  * asks for other code it has a function of its own, `plain_second_...`. */
 #ifndef PLAIN_H
 #define PLAIN_H
@@ -66,6 +66,9 @@ typedef struct {
 /* Fills the chains and answers 1; 0 where a chain returns to a state. */
 int plain_order(const uint16_t *defaults, size_t n, plain_chains *chains);
 
+/* Ground 12 where some entry is what its default's chain gives; else 0 and the worst. Of each state it is said where its entries begin and end. */
+uint32_t plain_sweep(const uint8_t *const *begins, const uint8_t *const *ends, const plain_chains *chains, size_t n, size_t k, uint32_t *worst);
+
 /* The defaults of an accepted table in an order: of the bounded greedy forest, or in order 3 toward the start. `seeking` tells how the pairs of one weight are
  * found in order 0 (plain_forest.c), and in order 3 that only the pairs that can count are weighed (plain_toward.c). */
 void plain_defaults(const uint8_t *table, size_t length, uint32_t order, uint32_t bound, int seeking, uint16_t *defaults);
@@ -107,6 +110,14 @@ kamordast_built plain_strings(const uint8_t *list, size_t length, int linking, u
 
 /* An accepted table of either edition without the states that no payload reaches or tells apart from another. */
 kamordast_built plain_reduce(const uint8_t *table, size_t length, uint8_t *room, size_t room_length);
+
+/* A patch against an accepted image of either edition: 22 to 24, 8 to 13. */
+uint32_t plain_judge_patch(const uint8_t *image, size_t length, const uint8_t *patch, size_t patch_length);
+
+/* An accepted image with an accepted patch: applied, or refusal 16; and the walk of a payload through both. */
+kamordast_built plain_apply(const uint8_t *image, size_t length, const uint8_t *patch, size_t patch_length, uint8_t *room, size_t room_length);
+kamordast_scanned plain_scan_patched(const uint8_t *image, size_t length, const uint8_t *patch, size_t patch_length, uint32_t state, const uint8_t *payload, size_t bytes, uint8_t *room, size_t room_length);
+kamordast_scanned plain_second_scan_patched(const uint8_t *image, size_t length, const uint8_t *patch, size_t patch_length, uint32_t state, const uint8_t *payload, size_t bytes, uint8_t *room, size_t room_length);
 
 /* The walk of a payload through an accepted image. */
 kamordast_scanned plain_scan(const uint8_t *image, size_t length, uint32_t state, const uint8_t *payload, size_t bytes, uint8_t *room, size_t room_length);

@@ -38,16 +38,14 @@ static int next_states_bad(const uint8_t *entries, size_t m, size_t n) {
     return largest >= n;
 }
 
-/* Ground 12 where some entry is what its default's chain gives; else the worst. Every array goes by the states' places. */
-static uint32_t sweep(const uint8_t *records, const uint8_t *entries, const plain_chains *chains, size_t n, size_t k, uint32_t *worst) {
-    const uint8_t *begins[513], *at[512], *end[512];
+/* Every array but the two that are handed in goes by the states' places. */
+uint32_t plain_sweep(const uint8_t *const *begins, const uint8_t *const *ends, const plain_chains *chains, size_t n, size_t k, uint32_t *worst) {
+    const uint8_t *at[512], *end[512];
     uint16_t waiting[512], to[513], hops[513];
     uint16_t most = 0;
-    begins[0] = entries;
-    for (size_t s = 0; s < n; s++) begins[s + 1] = begins[s] + 4 * plain_number16(records + 4 * s + 2);
     for (size_t i = 0; i < n; i++) {
         at[i] = begins[chains->order[i]];
-        end[i] = begins[chains->order[i] + 1];
+        end[i] = ends[chains->order[i]];
         waiting[i] = at[i] < end[i] ? plain_number16(at[i]) : 65535;
     }
     to[n] = 65535; /* what a root falls to gives no state */
@@ -69,6 +67,14 @@ static uint32_t sweep(const uint8_t *records, const uint8_t *entries, const plai
         }
     *worst = most;
     return 0;
+}
+
+/* The sweep of an image, whose entries stand one state's behind the other's. */
+static uint32_t sweep(const uint8_t *records, const uint8_t *entries, const plain_chains *chains, size_t n, size_t k, uint32_t *worst) {
+    const uint8_t *begins[513];
+    begins[0] = entries;
+    for (size_t s = 0; s < n; s++) begins[s + 1] = begins[s] + 4 * plain_number16(records + 4 * s + 2);
+    return plain_sweep(begins, begins + 1, chains, n, k, worst);
 }
 
 EACH_EDITION uint32_t judge_image(const uint8_t *image, size_t length, int second) {

@@ -11,7 +11,7 @@ function short(x,    digits) {
     return sprintf("%." digits "f", x)
 }
 function line(operation, what, table, image, archive, c, ratio, ms_archive, ms_c, stack) {
-    printf "| %-19s | %-39s | %11s | %11s | %13s | %11s | %5s | %9s | %7s | %11s |\n", operation, what, table, image, archive, c, ratio, ms_archive, ms_c, stack
+    printf "| %-19s | %-43s | %11s | %11s | %13s | %11s | %5s | %9s | %7s | %11s |\n", operation, what, table, image, archive, c, ratio, ms_archive, ms_c, stack
 }
 FNR == NR {
     split($0, part, " ")

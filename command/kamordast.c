@@ -7,7 +7,9 @@
 #include "files.h"
 #include "kamordast.h"
 #include "layout.h"
+#include "patches.h"
 #include "refusals.h"
+#include "reports.h"
 #include "served.h"
 #include "status.h"
 #include "store.h"
@@ -28,8 +30,13 @@ static const char help[] =
     "  rewrite IMAGE IMAGE            the first without its defaults that share fewer than two classes; says how many went and what it did\n"
     "  forward IMAGE IMAGE            the first, of edition 1, moved into edition 2 as the second\n"
     "  back IMAGE IMAGE               the first, of edition 2 with at most one label on a state, moved into edition 1\n"
+    "  diff IMAGE TARGET PATCH        the patch that makes TARGET of IMAGE, applied and compared before it is written; says what it saves, or why there is none\n"
+    "  judge-patch IMAGE PATCH        does PATCH fit IMAGE, and what does it make of it?\n"
+    "  apply IMAGE PATCH IMAGE        the first with PATCH, as the second\n"
     "  scan IMAGE PAYLOAD [STATE]     the reports of PAYLOAD, from STATE or the start state, a line for each label of an offset\n"
-    "  walk TABLE PAYLOAD [STATE]     the same by the table itself, without an image and without hops\n"
+    "  scan-patched IMAGE PATCH PAYLOAD [STATE]\n"
+    "                                 the same by IMAGE with PATCH, which is not applied for it\n"
+    "  walk TABLE PAYLOAD [STATE]     the same as scan by the table itself, without an image and without hops\n"
     "  served [--sort] IMAGE PAYLOAD  for each state how often it served and how often it ran; --sort: the one that served most first\n"
     "  bounds TABLE                   depth, worst, entries, defaults and bytes with bounds 0 to 3\n"
     "  forest [--dot] [--order N] TABLE BOUND\n"
@@ -39,6 +46,7 @@ static const char help[] =
     "Order 3 lets each state fall back toward the start: a whole payload from there costs no more hops than it has bytes, and BOUND changes nothing.\n"
     "Edition 2 of tables and images has up to 16 labels on a state. Every command takes both editions, and an output file is of its input's, but for forward and back; strings makes edition 2.\n"
     "In a word list \\xNN is a byte by two hexadecimal digits, \\t a tab, \\n a line's end and \\\\ a backslash; 1 to 64 strings of 1 to 32 bytes, labels 1 to 65535.\n"
+    "A patch lists 1 to 64 states of the image that it is made for with their new defaults and entries; labels, classes, start state and edition stay.\n"
     "Example: kamordast strings examples/endings.list endings.table\n"
     "Example: kamordast compact endings.table 2 endings.image\n"
     "Example: kamordast scan endings.image README.md\n"
@@ -50,13 +58,23 @@ static const char help[] =
     "Example: kamordast rewrite words.image words-new.image\n"
     "Example: kamordast forward words.image words-2.image\n"
     "Example: kamordast back words-2.image words-1.image\n"
-    "Exit status: 0 done, 1 refused (the number and what to do on standard error), 2 usage, 3 file trouble, 4 a count that is not the scan's.\n"
+    "Example: kamordast compact examples/words.table 0 old.image\n"
+    "Example: kamordast compact examples/words.table 1 new.image\n"
+    "Example: kamordast diff old.image new.image new.patch\n"
+    "Example: kamordast judge-patch old.image new.patch\n"
+    "Example: kamordast scan-patched old.image new.patch README.md\n"
+    "Example: kamordast apply old.image new.patch applied.image\n"
+    "Exit status: 0 done, 1 refused (the number and what to do on standard error; of diff: why there is no patch), 2 usage, 3 file trouble, 4 a count or a patch that is not what the proved operations say.\n"
     "A file is written beside its place, read back and judged before it gets its name.\n";
 
 static int usage(const char *what) {
     fprintf(stderr, "kamordast: %s\ntry: kamordast --help\n", what);
     return USAGE;
 }
+
+/* A state is handed on as it was typed, as far as it has 32 bits. */
+static const long MOST_STATE = 4294967295L;
+static const char state_wanted[] = "the state is a number from 0 to 4294967295";
 
 /* A number from 0 to `most`, or -1. */
 static long number_of(const char *word, long most) {
@@ -150,19 +168,16 @@ static int move(mover *moved, const char *from, const char *to) {
 typedef kamordast_scanned runner(const uint8_t *, size_t, uint32_t, const uint8_t *, size_t, uint8_t *, size_t);
 typedef uint32_t judges(const uint8_t *, size_t);
 
-/* Scan and walk: a line for each report, so that an offset with several labels has several lines, and one of the numbers. */
+/* Scan and walk. */
 static int reports(judges *judged, runner *run, const char *from, size_t longest, const char *bytes, const char *state_word) {
     size_t length = read_file(from, input, longest);
     uint32_t refused = judged(input, length);
     if (refused) return refuse(from, refused);
-    long state = state_word ? number_of(state_word, 4294967295L) : (long)number16(input, 4);
-    if (state < 0) return usage("the state is a number from 0 to 4294967295");
+    long state = state_word ? number_of(state_word, MOST_STATE) : (long)number16(input, 4);
+    if (state < 0) return usage(state_wanted);
     size_t payload_length = read_file(bytes, payload, LONGEST_PAYLOAD);
     kamordast_scanned r = run(input, length, (uint32_t)state, payload, payload_length, room, LONGEST_REPORTS);
-    if (r.refused) return refuse(r.refused == 15 ? bytes : state_word ? state_word : from, r.refused);
-    for (uint32_t i = 0; i < r.reports; i++) printf("offset %u label %u\n", (unsigned)number32(room, 6 * (size_t)i), (unsigned)number16(room, 6 * (size_t)i + 4));
-    printf("taken %u state %u reports %u hops %u\n", (unsigned)r.taken, (unsigned)r.state, (unsigned)r.reports, (unsigned)r.hops);
-    return DONE;
+    return say_reports(r, r.refused == 15 ? bytes : state_word ? state_word : from);
 }
 
 static int scan(const char *image, const char *bytes, const char *state_word) {
@@ -246,6 +261,14 @@ static int run(int count, char **words) {
     if (!strcmp(command, "rewrite")) return count == 4 ? rewrite(words[2], words[3]) : usage("rewrite wants IMAGE IMAGE");
     if (!strcmp(command, "forward")) return count == 4 ? move(kamordast_forward, words[2], words[3]) : usage("forward wants IMAGE IMAGE");
     if (!strcmp(command, "back")) return count == 4 ? move(kamordast_back, words[2], words[3]) : usage("back wants IMAGE IMAGE");
+    if (!strcmp(command, "diff")) return count == 5 ? diff(words[2], words[3], words[4]) : usage("diff wants IMAGE TARGET PATCH");
+    if (!strcmp(command, "judge-patch")) return count == 4 ? judge_patch(words[2], words[3]) : usage("judge-patch wants IMAGE PATCH");
+    if (!strcmp(command, "apply")) return count == 5 ? apply(words[2], words[3], words[4]) : usage("apply wants IMAGE PATCH IMAGE");
+    if (!strcmp(command, "scan-patched")) {
+        if (count != 5 && count != 6) return usage("scan-patched wants IMAGE PATCH PAYLOAD [STATE]");
+        if (count == 6 && number_of(words[5], MOST_STATE) < 0) return usage(state_wanted);
+        return scan_patched(words[2], words[3], words[4], count == 6 ? number_of(words[5], MOST_STATE) : -1);
+    }
     if (!strcmp(command, "scan"))
         return count == 4 || count == 5 ? scan(words[2], words[3], count == 5 ? words[4] : NULL) : usage("scan wants IMAGE PAYLOAD [STATE]");
     if (!strcmp(command, "walk"))

@@ -25,12 +25,15 @@ static const struct {
     {"the state is not a state of this image or table", "begin in its own start state"},
     {"the payload has more than 65,536 bytes", "cut the payload and carry the state over from one scan or walk to the next"},
     {"the room for the result is too short", "give a larger room"},
-    {0, 0}, /* 17 is not used; nor, so far, are 22 to 24 */
+    {0, 0}, /* 17 is not used */
     {"there is no such order", "take order 0, 1, 2 or 3; where none is named it is 0"},
     {"a state has more than 16 labels, or a label that is 0 or not above the one before it", "it was built wrongly: send it back to the rules desk"},
     {"the image is of the edition that it was to be moved to", "it needs no move: load it as it is, or take the other direction; judge names the edition"},
     {"a state has more than one label, and edition 1 has room for one", "it cannot go back: ask the rules desk for a table with one rule on each state, or give the image to a board that takes edition 2"},
-    [25] = {"a default of the list shares fewer than two classes with its state and is not worth its hops",
+    {"this is no patch, or it was cut short or altered on the way", "check that the right file was taken; fetch the patch anew and do not load it"},
+    {"the patch was made for another image", "take the patch that was made for this image, or the image that it was made for; judge-patch says whether they fit. A patch that is applied already fits no more"},
+    {"the patch lists a state that the image does not have, or its states do not rise", "the patch was built wrongly: make it anew with diff, from the image that the board has"},
+    {"a default of the list shares fewer than two classes with its state and is not worth its hops",
             "leave such states without a default (65535), or build with compact; an image that has such defaults stays good, and rewrite takes them out"},
     {"the word list is not 1 to 64 strings of 1 to 32 bytes, or ends too early, or has something after its end",
      "write each string on a line of its own, as its label, one tab and 1 to 32 bytes, in 64 lines at most; of a list in bytes compare the size with the source's and fetch it anew"},

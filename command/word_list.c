@@ -64,11 +64,6 @@ static int read_string(reading *r, uint8_t *bytes) {
     return length ? length : set_fault(r, "the string is empty");
 }
 
-static void put16(uint8_t *at, int x) {
-    at[0] = x & 255;
-    at[1] = x >> 8 & 255;
-}
-
 size_t list_of_text(const uint8_t *text, size_t length, uint8_t *list, uint32_t *line, const char **fault) {
     reading r = {text, text + length, NULL};
     uint32_t count = 0;
@@ -84,13 +79,13 @@ size_t list_of_text(const uint8_t *text, size_t length, uint8_t *list, uint32_t 
             *fault = r.fault;
             return 0;
         }
-        put16(list + at, label);
-        put16(list + at + 2, bytes);
+        put16(list + at, (uint32_t)label);
+        put16(list + at + 2, (uint32_t)bytes);
         at += 4 + (size_t)bytes;
         if (r.at < r.end) r.at++; /* the line's end */
     }
     *line = 0;
-    put16(list, (int)count);
+    put16(list, count);
     return at;
 }
 

@@ -1,4 +1,4 @@
-/* Kamordast: rule tables made of word lists and reduced, compacted into images, judged, expanded, rewritten, moved across the editions, scanned and walked. Every function is proved to meet the definition paper.
+/* Kamordast: rule tables made of word lists and reduced, compacted into images, judged, expanded, rewritten, moved across the editions, patched, scanned and walked. Every function is proved to meet the definition paper.
  *
  * A slice is a pointer and a length. The pointer is never null, not even for a length of 0, and a room overlaps no other slice. A caller that breaks this is
  * promised nothing.
@@ -14,7 +14,7 @@
 extern "C" {
 #endif
 
-/* Both formats come in two editions, and every function takes both; what compact, write, expand, rewrite and reduce make is of their input's edition, forward and back make the other, and strings makes edition 2. All numbers are little-endian. A
+/* Both formats come in two editions, and every function takes both; what compact, write, expand, rewrite, apply and reduce make is of their input's edition, forward and back make the other, and strings makes edition 2. All numbers are little-endian. A
  * table is n, k and the start state (16 bits each), 256 bytes with the class of each byte, the labels, and n rows of k next states. An image is n, k, start, depth (16 bits each) and m (32 bits),
  * the 256 classes, the labels, n records (default state or 65535, count of entries), m entries (class, next state) and a trailer of 12 bytes. The labels are, in
  *   edition 1: a label of 16 bits for each state, 0 for no rule. The first word is n, 1 to 512.
@@ -22,7 +22,7 @@ extern "C" {
  * docs/FORMATS.md has every byte of both. A loader that knows edition 1 only refuses an image of edition 2 with 2. */
 
 /* The largest table and the largest image that there are, of either edition: a room of so many bytes is always enough for expand, strings and reduce, and for
- * compact, write, rewrite, forward and back. */
+ * compact, write, rewrite, apply, forward and back. */
 #define KAMORDAST_LARGEST_TABLE 279814
 #define KAMORDAST_LARGEST_IMAGE 544024
 
@@ -34,13 +34,17 @@ extern "C" {
 #define KAMORDAST_LONGEST_STRING 32
 #define KAMORDAST_LONGEST_LIST 2306
 
-/* What compact, write, expand, rewrite, forward, back, strings and reduce answer: 0 or the refusal's number, and the length of the result in the room. */
+/* The most states that a patch lists, and the longest patch that is accepted of any image. */
+#define KAMORDAST_MOST_PATCHED 64
+#define KAMORDAST_LARGEST_PATCH 65942
+
+/* What compact, write, expand, rewrite, forward, back, strings, reduce and apply answer: 0 or the refusal's number, and the length of the result in the room. */
 typedef struct {
     uint32_t refused;
     uint32_t length;
 } kamordast_built;
 
-/* What scan and walk answer: 0 or the refusal's number, bytes taken, the state, reports and hops. */
+/* What scan, walk and the patched scan answer: 0 or the refusal's number, bytes taken, the state, reports and hops. */
 typedef struct {
     uint32_t refused;
     uint32_t taken;
@@ -101,6 +105,20 @@ kamordast_scanned kamordast_scan(const uint8_t *image, size_t image_length, uint
 /* Walks a payload from a state of a plain table, without an image: the same reports, room rule and answers as a scan of any image of the table, and always 0 hops. */
 kamordast_scanned kamordast_walk(const uint8_t *table, size_t table_length, uint32_t state, const uint8_t *payload, size_t payload_length,
                                  uint8_t *room, size_t room_length);
+
+/* A patch gives 1 to 64 states of one image new records and entries, and the image a new depth and a new worst: p, depth, worst (16 bits each), q (32 bits), p state numbers, rising, p records, q entries and a trailer of 12 bytes
+ * (docs/FORMATS.md). The trailer has the check word of the image that it fits. Labels, classes, the start state and the edition are the image's.
+ *
+ * Judges a patch against an image: 0, or the refusal's number. First the image's own; then 22, the patch was cut or altered; 23, it was made for another image; 24, it lists states that do not rise or are not below n; then 8 to 13, where the
+ * image that it makes would be refused so. Every proper beginning of an accepted patch, and every copy with one byte altered, is refused with 22. */
+uint32_t kamordast_judge_patch(const uint8_t *image, size_t image_length, const uint8_t *patch, size_t patch_length);
+
+/* Applies a patch to an image, into a new image at the front of the room. The result is accepted. Its check word is computed anew, so that most times the patch does not fit it any more. A room that is too short is refused with 16. */
+kamordast_built kamordast_apply(const uint8_t *image, size_t image_length, const uint8_t *patch, size_t patch_length, uint8_t *room, size_t room_length);
+
+/* Scans a payload from a state by an image and a patch, without applying it: the entries are taken from the patch where it lists the state, else from the image. Answers and reports what a scan of the applied image does, hops too. */
+kamordast_scanned kamordast_scan_patched(const uint8_t *image, size_t image_length, const uint8_t *patch, size_t patch_length, uint32_t state, const uint8_t *payload, size_t payload_length,
+                                         uint8_t *room, size_t room_length);
 
 #ifdef __cplusplus
 }

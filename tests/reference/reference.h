@@ -42,6 +42,11 @@ reference_built reference_reduce(const uint8_t *table, size_t length, uint8_t *r
 int reference_same_reports(const uint8_t *table, const uint8_t *other);
 reference_scanned reference_scan(const uint8_t *image, size_t length, uint32_t state, const uint8_t *payload, size_t payload_length,
                                  uint8_t *room, size_t room_length);
+/* A patch held against an image, the image that it makes of it, and the scan of that one (C-20). */
+uint32_t reference_judge_patch(const uint8_t *image, size_t length, const uint8_t *patch, size_t patch_length);
+reference_built reference_apply(const uint8_t *image, size_t length, const uint8_t *patch, size_t patch_length, uint8_t *room, size_t room_length);
+reference_scanned reference_scan_patched(const uint8_t *image, size_t length, const uint8_t *patch, size_t patch_length, uint32_t state, const uint8_t *payload, size_t payload_length, uint8_t *room,
+                                         size_t room_length);
 reference_scanned reference_walk(const uint8_t *table, size_t length, uint32_t state, const uint8_t *payload, size_t payload_length,
                                  uint8_t *room, size_t room_length);
 

@@ -16,14 +16,14 @@ use Rattle.paper.proofs.Tests.{none≢some}
 use Rattle.paper.proofs.Rising.{Rises, full-row}
 use Rattle.abreast.specs.Laid.{headClass, classIn, nextIn, cellOf, Kept}
 use Rattle.abreast.specs.Turned.{Turned}
-use Rattle.abreast.specs.Keeps.{Keeps, Fits, Stands, StandsIn, RowKeeps, Needed}
+use Rattle.abreast.specs.Keeps.{Keeps, Fits, Stands, RowKeeps, Needed}
 use Rattle.abreast.proofs.Cursors.{stored-entry}
 use Rattle.abreast.proofs.Stored.{stored-where}
 use Rattle.abreast.proofs.Keeping.{Falls, keeps-own, keeps-on, falls-gives}
 use Rattle.abreast.proofs.Standing.{waits-among, stands-next}
 
 module _ {v : View} {n : ℕ} (X : Fits v n) (b : List ℕ) (first i s from : ℕ) (place left wait to hop : List ℕ) (hs : s < n) (within : i ≤ n)
-    (S : StandsIn v b first place left wait s)
+    (S : Stands v b first s (getD place s 0) (getD left s 0) (getD wait s 0))
     (F : (q : ℕ) → q < 2 → Falls v i s (first + q) (getD to (2 * from + q) 0) (getD hop (2 * from + q) 0)) where
   -- Where the entries wait, and which is the first of them.
   abbrev at : ℕ
@@ -106,7 +106,7 @@ module _ {v : View} {n : ℕ} (X : Fits v n) (b : List ℕ) (first i s from : �
             rw (T .to-fell q h free, T .hop-fell q h free) (keeps-on v (F q h) w (root-stores (first + q) w))
 
     -- And its entries of the next two classes wait.
-    pub turn-stands : StandsIn v b (first + 2) place′ left′ wait′ s
+    pub turn-stands : Stands v b (first + 2) s (getD place′ s 0) (getD left′ s 0) (getD wait′ s 0)
     turn-stands =
         rw (T .waiting .place-is, T .waiting .left-is, T .waiting .class-is)
         (stands-next up S (T .count) (T .within) (T .past) (T .in-two) (headClass b (at + 4 * T .count) (getD left s 0 - T .count)) refl (T .waiting .class-small))

@@ -5,14 +5,33 @@ use mathlib.Core.Option.{Option, none, some}
 use mathlib.Core.List.{List}
 use Prim.Native.Nat.{ℕ, suc, _+_, _-_, _*_, _≤_, _<_}
 use native.Mathlib.Decide.{ℕ-discrete, decLt}
+use native.Mathlib.Nat.{zero-add}
 use native.Mathlib.Omega.{arith}
-use lib.ListN.{getD}
+use lib.ListN.{length, getD}
 use Rattle.paper.specs.Words.{number16}
 use Rattle.paper.specs.View.{View, stored}
 use Rattle.paper.proofs.Rising.{Rises, ahead}
 use Rattle.abreast.specs.Laid.{headClass, classIn, nextIn, Waits}
 use Rattle.abreast.specs.Turned.{Turned}
 use Rattle.abreast.specs.Keeps.{Cursor, Stands}
+use Rattle.abreast.proofs.Cursors.{cursor-start}
+
+-- All entries of a state wait where the first of them stands.
+pub stands-first : {v : View} {b : List ℕ} {s at left class : ℕ} → left ≡ v .count s → at + 4 * left ≤ length b → length b < 600000
+    → ((i : ℕ) → i < left → classIn b at i ≡ v .entryClass s i) → ((i : ℕ) → i < left → nextIn b at i ≡ v .entryNext s i) → class ≡ headClass b at left → class < 65536
+    → Stands v b 0 s at left class
+stands-first {v} {s = s} many inside short class-reads next-reads head below =
+    record {
+      entry = 0;
+      cursor = cursor-start v s;
+      left-is = omega (arith, many);
+      inside = inside;
+      small = short;
+      reads-class = λ i h. rw (zero-add i) (class-reads i h);
+      reads-next = λ i h. rw (zero-add i) (next-reads i h);
+      class-is = head;
+      class-small = below;
+    }
 
 module _ {v : View} {b : List ℕ} {first s at left class : ℕ} (up : Rises (v .entryClass s) (v .count s)) (S : Stands v b first s at left class) where
   -- The entry that a waiting one is.

@@ -66,9 +66,9 @@ module _ (v : View) where
     pub class-is : class ≡ headClass b at left
     pub class-small : class < 65536
 
-  -- The lists have this for a state.
-  abbrev pub StandsIn : List ℕ → ℕ → List ℕ → List ℕ → List ℕ → ℕ → Type 0
-  StandsIn b c place left wait s = Stands b c s (getD place s 0) (getD left s 0) (getD wait s 0)
+  -- The lists have this for a state, in the bytes of the state.
+  abbrev pub StandsIn : (ℕ → List ℕ) → ℕ → List ℕ → List ℕ → List ℕ → ℕ → Type 0
+  StandsIn bytes c place left wait s = Stands (bytes s) c s (getD place s 0) (getD left s 0) (getD wait s 0)
 
   -- The row of a state keeps this for the two classes from `first` on.
   abbrev pub RowKeeps : ℕ → List ℕ → List ℕ → ℕ → ℕ → Type 0
@@ -82,10 +82,14 @@ module _ (v : View) where
 abbrev pub Bottom : List ℕ → List ℕ → Type 0
 Bottom to hop = (q : ℕ) → q < 2 → (getD to (1024 + q) 0 ≡ 65535) × (getD hop (1024 + q) 0 ≡ 0)
 
+-- The bytes of every state are the same.
+abbrev pub inOne : List ℕ → ℕ → List ℕ
+inOne b s = b
+
 -- The two classes from `first` on are done with.
-pub record Across (v : View) (b : List ℕ) (n first : ℕ) (place left wait to hop : List ℕ) : Type 0 where
+pub record Across (v : View) (bytes : ℕ → List ℕ) (n first : ℕ) (place left wait to hop : List ℕ) : Type 0 where
   pub long : Long place left wait to hop
   pub bottom : Bottom to hop
   pub rows : (s : ℕ) → s < n → RowKeeps v first to hop n s
   pub needed : (s : ℕ) → s < n → Needed v first s
-  pub stands : (s : ℕ) → s < n → StandsIn v b (first + 2) place left wait s
+  pub stands : (s : ℕ) → s < n → StandsIn v bytes (first + 2) place left wait s

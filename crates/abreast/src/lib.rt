@@ -11,7 +11,7 @@ ghost use Rattle.paper.specs.Image.{imageView};
 ghost use Rattle.abreast.specs.Rows.{Fell};
 ghost use Rattle.abreast.specs.Laid.{headClass, Waits, Kept, AllLaid};
 ghost use Rattle.abreast.specs.Turned.{Turned, Long};
-ghost use Rattle.abreast.specs.Keeps.{Fits, Ordered, Above, StandsIn, Bottom, Across};
+ghost use Rattle.abreast.specs.Keeps.{Fits, Ordered, Above, StandsIn, Bottom, inOne, Across};
 
 pub mod opening;
 
@@ -96,7 +96,7 @@ fn lay(
 }
 
 // One state in its turn: its row falls from another, and its entries of the two classes are laid over it. True where one of them is what the row fell to.
-fn turn(
+pub fn turn(
     b: &[u8],
     first: usize,
     s: usize,
@@ -142,10 +142,10 @@ pub fn two_classes(
 ) -> bool
     requires { ⌜ Fits (imageView (now image)) n × Ordered (imageView (now image)) n (now order) × Above (imageView (now image)) n (now up) × (first ≤ 256)
         × Long (now place) (now left) (now wait) (now to) (now hop) × Bottom (now to) (now hop)
-        × ((s : ℕ) → s < n → StandsIn (imageView (now image)) (now image) first (now place) (now left) (now wait) s) ⌝ }
+        × ((s : ℕ) → s < n → StandsIn (imageView (now image)) (inOne (now image)) first (now place) (now left) (now wait) s) ⌝ }
     ensures { λ r. ⌜ Long (now (place .exit)) (now (left .exit)) (now (wait .exit)) (now (to .exit)) (now (hop .exit))
         × (r ≡ true → anyEntry (imageView (now (image .entry))) (sameAsDefault (imageView (now (image .entry)))) ≡ true)
-        × (r ≡ false → Across (imageView (now (image .entry))) (now (image .entry)) n first (now (place .exit)) (now (left .exit)) (now (wait .exit)) (now (to .exit)) (now (hop .exit))) ⌝ }
+        × (r ≡ false → Across (imageView (now (image .entry))) (inOne (now (image .entry))) n first (now (place .exit)) (now (left .exit)) (now (wait .exit)) (now (to .exit)) (now (hop .exit))) ⌝ }
 {
     for i in 0..n {
         let s = order[i] as usize;

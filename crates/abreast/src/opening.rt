@@ -1,12 +1,13 @@
 // The rows that the states fall from, and where their entries wait before the first class.
 ghost use mathlib.Core.Path.{_≡_};
 ghost use lib.ListN.{length};
-ghost use Rattle.paper.specs.Image.{classes};
+ghost use Rattle.paper.specs.Image.{classes, imageView};
 ghost use Rattle.image.specs.Passed.{Passed};
 ghost use Rattle.abreast.specs.Opened.{rowAbove, Opened};
+ghost use Rattle.abreast.specs.Keeps.{inOne};
 
 // The row that a state falls from: its default's, or row 512.
-fn row_above(fallback: image::Fallback) -> u16
+pub fn row_above(fallback: image::Fallback) -> u16
     ensures { λ r. ⌜ r ≡ rowAbove fallback ⌝ }
 {
     match fallback {
@@ -26,7 +27,7 @@ pub fn open_rows(
     wait: &mut [u16; 512],
 )
     requires { ⌜ Passed (now image) n (classes (now image)) m × (length (now up) ≡ 512) × (length (now place) ≡ 512) × (length (now left) ≡ 512) × (length (now wait) ≡ 512) ⌝ }
-    ensures { λ _. ⌜ Opened (now (image .entry)) n (now (up .exit)) (now (place .exit)) (now (left .exit)) (now (wait .exit)) ⌝ }
+    ensures { λ _. ⌜ Opened (imageView (now (image .entry))) (inOne (now (image .entry))) n (now (up .exit)) (now (place .exit)) (now (left .exit)) (now (wait .exit)) ⌝ }
 {
     let records = image::records_at(image, n, m);
     let mut at = records + 4 * n;

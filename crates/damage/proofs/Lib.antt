@@ -5,3 +5,4 @@ pub mod Checked
 pub mod Cut
 pub mod Prefixes
 pub mod Damage
+pub mod PatchDamage

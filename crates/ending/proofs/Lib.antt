@@ -1,2 +1,3 @@
 pub mod Trailer
 pub mod Ended
+pub mod Written

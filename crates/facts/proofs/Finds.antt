@@ -1,15 +1,16 @@
 -- In a sound view every look-up finds a next state, so that depth and worst are the longest chain and the largest hops; in an accepted image the stated ones are.
-use mathlib.Core.Path.{_≡_}
+use mathlib.Core.Path.{_≡_, ap}
 use mathlib.Core.List.{List}
-use mathlib.Core.Option.{none, some}
+use mathlib.Core.Option.{Option, none, some}
 use Prim.Native.Nat.{ℕ, _<_}
 use native.Mathlib.Omega.{arith}
-use Rattle.paper.specs.Below.{howMany}
-use Rattle.paper.specs.View.{View, Found, stored, find, look}
+use Rattle.paper.specs.Below.{howMany, or}
+use Rattle.paper.specs.View.{View, Found, here, stored, find, look}
 use Rattle.paper.specs.Image.{states, depth, classOf, worst, imageView}
 use Rattle.paper.specs.Sentences.{LongestChain, Serves, LargestHops}
-use Rattle.paper.proofs.Look.{look-finds}
-use Rattle.paper.proofs.Entries.{has, entries-counted, full-stores}
+use Rattle.paper.proofs.Chain.{steps-inside, chain-short}
+use Rattle.paper.proofs.Look.{look-finds, look-serves, serves-within}
+use Rattle.paper.proofs.Entries.{has, entries-counted, full-stores, stored-entry}
 use Rattle.paper.proofs.Stated.{depth-is-longest, finds-serves, worst-is-largest}
 use Rattle.facts.proofs.ViewFacts.{Sound}
 use Rattle.facts.proofs.ImageFacts.{AcceptedImage}
@@ -26,6 +27,18 @@ module _ (v : View) (A : Sound v) where
   -- Every look-up finds a next state.
   pub found : (s c : ℕ) → s < v .states → c < v .classes → (r : Found) × (find v s c ≡ some r)
   found s c hs hc = let (l, e) = A .ends s hs in look-finds v c (A .inside) (λ r hr q. root-stores r c hr hc q) (v .states) s l hs e
+
+  -- What it finds is a state, after fewer hops than there are states.
+  pub look-within : (s c : ℕ) → s < v .states → c < v .classes → (look v s c .target < v .states) × (look v s c .hops < v .states)
+  look-within s c hs hc =
+      let (l, e) = A .ends s hs in
+      let (r, q) = found s c hs hc in
+      let S = look-serves v c (v .states) s r q in
+      let (j, hj, _, w) = stored-entry v (r .server) c (r .target) (S .stores) in
+      let server-in = steps-inside v (A .inside) (r .hops) s (r .server) hs (S .reached) in
+      let seen : look v s c ≡ r = ap (λ (o : Option Found). or o (here 0 0)) q in
+      rw seen
+      (omega (arith, w, A .next-below (r .server) j server-in hj), omega (arith, serves-within v c (v .states) s l (r .server) (r .hops) (r .target) e S, chain-short v (v .states) s l e))
 
 module _ (b : List ℕ) (A : AcceptedImage b) where
   -- Every byte of an accepted image is found from every state.

@@ -4,5 +4,7 @@ pub mod LabelFacts
 pub mod TableFacts
 pub mod ViewFacts
 pub mod ImageFacts
+pub mod Listed
+pub mod PatchFacts
 pub mod Finds
 pub mod FirstLoader

@@ -4,12 +4,12 @@ use mathlib.Core.List.{List}
 use Prim.Native.Nat.{ℕ, _+_, _*_, _≤_, _<_}
 use native.Mathlib.Numerals.{add-one}
 use native.Mathlib.Omega.{arith}
-use lib.ListN.{length, set, length-set}
+use lib.ListN.{length, set}
 use Rattle.paper.specs.Words.{number16}
 use Rattle.paper.specs.Image.{states, behind, entriesAt, recordsAt, count, entryAt}
 use Rattle.paper.proofs.Sums.{sum-up}
-use Rattle.paper.proofs.Filled.{Filled, fill-more}
 use Rattle.image.specs.Laid.{Laid, Begins}
+use Rattle.image.proofs.Places.{Begun, places-start, places-more, places-done}
 
 module _ (b : List ℕ) (L : Laid b) where
   -- The records stand behind the labels.
@@ -30,14 +30,6 @@ module _ (b : List ℕ) (L : Laid b) where
   unfolding entryAt
   begin-in s h = omega (arith, sum-up s (states b) (count b) h, L .counted, L .long)
 
--- What holds at the head of the loop: the places so far are filled, and `at` is the next.
-pub record Begun (b : List ℕ) (n at : ℕ) (begins : List ℕ) (s : ℕ) : Type 0 where
-  pub within : s ≤ n
-  pub at-is : at ≡ entryAt b s 0
-  pub at-in : at + 12 ≤ length b
-  pub long : length begins ≡ 513
-  pub filled : Filled (λ q. entryAt b q 0) begins s
-
 -- Records, entries and trailer fit in the image, and all numbers are small.
 pub record Sizes (b : List ℕ) (n records : ℕ) : Type 0 where
   pub few-states : n ≤ 512
@@ -54,36 +46,26 @@ module _ (b : List ℕ) (L : Laid b) (n records : ℕ) (n-is : n ≡ states b) (
         short = omega (arith, L .long, L .few-states, L .few-entries, L .few-labels);
       }
 
-  -- No place is filled at the start.
-  pub begun-start : (begins : List ℕ) → length begins ≡ 513 → Begun b n (records + 4 * n) begins 0
-  unfolding entryAt
-  begun-start begins l =
-      record {
-        within = omega arith;
-        at-is = omega (arith, entries-behind b L);
-        at-in = omega (arith, sizes .room);
-        long = l;
-        filled = λ q h. absurd (omega arith);
-      }
+  -- The list of places has room for all, and they stand before the trailer.
+  room : n < 513
+  room = omega (arith, sizes .few-states)
 
-  module _ (at : ℕ) (begins : List ℕ) (s : ℕ) (g : Begun b n at begins s) where
+  inside : (s : ℕ) → s ≤ n → entryAt b s 0 + 12 ≤ length b
+  inside s h = begin-in b L s (omega (arith, n-is))
+
+  -- No place is filled at the start.
+  pub begun-start : (begins : List ℕ) → length begins ≡ 513 → Begun (λ q. entryAt b q 0) 513 (length b) n (records + 4 * n) begins 0
+  unfolding entryAt
+  begun-start begins l = places-start (λ q. entryAt b q 0) room inside (records + 4 * n) begins (omega (arith, entries-behind b L)) l
+
+  module _ (at : ℕ) (begins : List ℕ) (s : ℕ) (g : Begun (λ q. entryAt b q 0) 513 (length b) n at begins s) where
     -- One place more is filled in each turn.
-    pub begun-more : s < n → (c : ℕ) → c ≡ number16 b (records + 4 * s + 2) → Begun b n (at + 4 * c) (set begins s at) (s + 1)
+    pub begun-more : s < n → (c : ℕ) → c ≡ number16 b (records + 4 * s + 2) → Begun (λ q. entryAt b q 0) 513 (length b) n (at + 4 * c) (set begins s at) (s + 1)
     unfolding count
     begun-more h c e =
         let e′ : c ≡ number16 b (recordsAt b + 4 * s + 2) = e ∙ rw records-is in
-        let next : at + 4 * c ≡ entryAt b (s + 1) 0 = omega (arith, g .at-is, next-begin b L s, e′) in
-        record {
-          within = omega arith;
-          at-is = next;
-          at-in = omega (arith, next, begin-in b L (s + 1) (omega arith));
-          long = length-set begins s at ∙ g .long;
-          filled = fill-more (λ q. entryAt b q 0) begins s at (omega (arith, g .long, sizes .few-states)) (g .at-is) (g .filled);
-        }
+        places-more (λ q. entryAt b q 0) room inside g h (at + 4 * c) (omega (arith, g .at-is, next-begin b L s, e′))
 
     -- In the end all are, with the place behind the last.
     pub begun-done : n ≤ s → Begins b (set begins n at)
-    begun-done h q hq =
-        let e : n ≡ s = omega (arith, g .within) in
-        let w = fill-more (λ q. entryAt b q 0) begins s at (omega (arith, g .long, sizes .few-states)) (g .at-is) (g .filled) in
-        rw e (w q (omega arith))
+    begun-done h q hq = places-done (λ q. entryAt b q 0) room inside g h q (omega (arith, n-is))

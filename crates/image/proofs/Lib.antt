@@ -1,6 +1,8 @@
 pub mod Cases
+pub mod Places
 pub mod Begins
 pub mod Rows
+pub mod Reading
 pub mod Parts
 pub mod Accepted
 pub mod Way

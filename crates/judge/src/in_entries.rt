@@ -25,7 +25,7 @@ fn class_bad(row: &[u8], k: usize, j: usize) -> bool
 }
 
 // Ground 9 in the entries of one state.
-fn row_bad(row: &[u8], k: usize) -> bool
+pub fn row_bad(row: &[u8], k: usize) -> bool
     ensures { λ r. ⌜ r ≡ any (length (now (row .entry)) / 4) (classWrong k (now (row .entry))) ⌝ }
 {
     let count = row.len() / 4;

@@ -8,7 +8,7 @@ ghost use Rattle.judge.specs.Counted.{Counted, Records};
 ghost use Rattle.judge.specs.Tests.{recordWrong};
 
 // Ground 8 at one record: a default neither 65535 nor below n; a count above k; no default and a count other than k.
-fn record_bad(read: image::Record, n: usize, k: usize) -> bool
+pub fn record_bad(read: image::Record, n: usize, k: usize) -> bool
     ensures { λ r. ⌜ r ≡ recordWrong n k read ⌝ }
 {
     let count = read.count as usize;

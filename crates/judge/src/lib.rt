@@ -11,8 +11,8 @@ ghost use Rattle.paper.specs.Image.{distanceBack, wholeLength, check, imageLeng
 ghost use Rattle.paper.specs.Promises.{JudgesImage};
 ghost use Rattle.image.specs.Grounds.{firstGrounds};
 
-mod in_entries;
-mod in_records;
+pub mod in_entries;
+pub mod in_records;
 
 // Ground 2: n, k or m is out of range. All three are compared before anything is made of m.
 fn counts_bad(n: usize, k: usize, m: usize) -> bool
@@ -40,8 +40,8 @@ fn length_bad(b: &[u8], n: usize, m: usize, word: u16) -> bool
 }
 
 // Ground 4: the trailer's whole length or distance back is wrong.
-fn trailer_bad(b: &[u8], m: usize) -> bool
-    requires { ⌜ (12 ≤ length (now b)) × (m ≤ 131072) ⌝ }
+pub fn trailer_bad(b: &[u8], m: usize) -> bool
+    requires { ⌜ (12 ≤ length (now b)) × (m < 2 ^ 32) ⌝ }
     ensures { λ r. ⌜ r ≡ (differ (wholeLength (now (b .entry))) (length (now (b .entry))) || differ (distanceBack (now (b .entry))) (4 * m + 12)) ⌝ }
 {
     if words::get32(b, b.len() - 8) as usize != b.len() {
@@ -51,7 +51,7 @@ fn trailer_bad(b: &[u8], m: usize) -> bool
 }
 
 // Ground 5: the check word differs from that of all words before it.
-fn check_bad(b: &[u8]) -> bool
+pub fn check_bad(b: &[u8]) -> bool
     requires { ⌜ (2 ≤ length (now b)) × (length (now b) % 2 ≡ 0) × (length (now b) < 2 ^ 32) ⌝ }
     ensures { λ r. ⌜ r ≡ differ (check (now (b .entry))) (checkWord (words (take (length (now (b .entry)) - 2) (now (b .entry))))) ⌝ }
 {

@@ -24,11 +24,11 @@ use Rattle.paper.specs.Roots.{pairsAt, GoesBefore}
 use Rattle.paper.specs.FallBack.{level}
 use Rattle.paper.specs.Defaults.{defaults}
 use Rattle.paper.specs.Reached.{LeadsTo, HasLevel}
-use Rattle.paper.specs.Operations.{judgeTable, judgeImage, result, Unchanged, building, compact, write, expand, rewrite, strings, reduce, forward, back, scan, walk}
-use Rattle.paper.specs.Promises.{SameBuilt, JudgesTable, JudgesImage, Compacts, Writes, Expands, Rewrites, Tabulates, Reduces, MovesForward, MovesBack, Scans, Walks, SameWalk}
-use Rattle.paper.specs.Sentences.{FirstOf, Ends, LongestChain, Serves, LargestHops, tableSentences, imageSentences, compactSentences, writeSentences, expandSentences, rewriteSentences, stringsSentences, reduceSentences, forwardSentences, backSentences, scanSentences, walkSentences}
+use Rattle.paper.specs.Operations.{judgeTable, judgeImage, result, Unchanged, building, compact, write, expand, rewrite, strings, reduce, forward, back, scan, walk, judgePatch, apply, patchedScan}
+use Rattle.paper.specs.Promises.{SameBuilt, JudgesTable, JudgesImage, Compacts, Writes, Expands, Rewrites, Tabulates, Reduces, MovesForward, MovesBack, Scans, Walks, JudgesPatch, Applies, ScansPatched, SameWalk}
+use Rattle.paper.specs.Sentences.{FirstOf, Ends, LongestChain, Serves, LargestHops, tableSentences, imageSentences, compactSentences, writeSentences, expandSentences, rewriteSentences, stringsSentences, reduceSentences, forwardSentences, backSentences, scanSentences, walkSentences, patchSentences, applySentences, patchedScanSentences}
 use Rattle.paper.specs.Rewrite.{kept, AllWorth}
-use Rattle.paper.specs.Wakes.{TableWakes, ImageWakes}
+use Rattle.paper.specs.Wakes.{TellsAll, TableWakes, ImageWakes}
 use Rattle.paper.specs.Follows.{ScansLike}
 use Rattle.paper.specs.Altered.{Altered}
 use Rattle.paper.specs.Cases.{built, right, room, starred, requested, three}
@@ -76,6 +76,9 @@ pub refusals-exact : ((t : List ℕ) (number : ℕ) → judgeTable t ≡ number 
     × ((t room : List ℕ) (number : ℕ) → reduce t room .number ≡ number ↔ FirstOf (reduceSentences t (length room)) number)
     × ((b : List ℕ) (s : ℕ) (payload room : List ℕ) (number : ℕ) → scan b s payload room .number ≡ number ↔ FirstOf (scanSentences b s payload) number)
     × ((t : List ℕ) (s : ℕ) (payload room : List ℕ) (number : ℕ) → walk t s payload room .number ≡ number ↔ FirstOf (walkSentences t s payload) number)
+    × ((b x : List ℕ) (number : ℕ) → judgePatch b x ≡ number ↔ FirstOf (patchSentences b x) number)
+    × ((b x room : List ℕ) (number : ℕ) → apply b x room .number ≡ number ↔ FirstOf (applySentences b x (length room)) number)
+    × ((b x : List ℕ) (s : ℕ) (payload room : List ℕ) (number : ℕ) → patchedScan b x s payload room .number ≡ number ↔ FirstOf (patchedScanSentences b x s payload) number)
 refusals-exact = (
   exact.judge-table-exact,
   exact.judge-image-exact,
@@ -89,6 +92,9 @@ refusals-exact = (
   exact.reduce-exact,
   exact.scan-exact,
   exact.walk-exact,
+  exact.judge-patch-exact,
+  exact.apply-exact,
+  exact.patched-scan-exact,
 )
 
 -- A refusal answers its number with every other number 0, and leaves the room as it was.
@@ -104,6 +110,9 @@ pub refused-unchanged : ((t : List ℕ) (order D : ℕ) (room : List ℕ) → ¬
     → (scan b s payload room .taken ≡ 0) × (scan b s payload room .state ≡ 0) × (scan b s payload room .reports ≡ 0) × (scan b s payload room .hops ≡ 0) × (scan b s payload room .room ≡ room))
     × ((t : List ℕ) (s : ℕ) (payload room : List ℕ) → ¬ (walk t s payload room .number ≡ 0)
     → (walk t s payload room .taken ≡ 0) × (walk t s payload room .state ≡ 0) × (walk t s payload room .reports ≡ 0) × (walk t s payload room .hops ≡ 0) × (walk t s payload room .room ≡ room))
+    × ((b x room : List ℕ) → ¬ (apply b x room .number ≡ 0) → Unchanged (apply b x room) room)
+    × ((b x : List ℕ) (s : ℕ) (payload room : List ℕ) → ¬ (patchedScan b x s payload room .number ≡ 0)
+    → (patchedScan b x s payload room .taken ≡ 0) × (patchedScan b x s payload room .state ≡ 0) × (patchedScan b x s payload room .reports ≡ 0) × (patchedScan b x s payload room .hops ≡ 0) × (patchedScan b x s payload room .room ≡ room))
 refused-unchanged = (
   refusing.compact-refused,
   refusing.write-refused,
@@ -115,6 +124,8 @@ refused-unchanged = (
   refusing.reduce-refused,
   refusing.scan-refused,
   refusing.walk-refused,
+  refusing.apply-refused,
+  refusing.patched-scan-refused,
 )
 
 -- Of an accepted image every proper beginning is refused.
@@ -233,7 +244,7 @@ pub walk-same : ((b : List ℕ) → Bytes b → judgeImage b ≡ 0 → (s : ℕ)
 walk-same = (scanned.accepted-walks, left.of-compact scanned.SameWalks scanned.accepted-walks, left.of-write scanned.SameWalks scanned.accepted-walks, hopless.walk-hops)
 
 -- The whole way, from a word list to the wakes of the host: what strings leaves tells, from its start state, exactly the strings of the list that end at each byte; and so does what is made of it by any steps, in any number and order:
--- reduce; compact in any order with any bound, and write with any list; expand; forward, back and rewrite. Each link asks only that its operation accepts.
+-- reduce; compact in any order with any bound, and write with any list; expand; forward, back and rewrite; apply of a patch that leaves the table of the image as it was, with which the patched scan tells it too. Each link asks only that its operation accepts, and the last that the two tables are one.
 pub wakes : (list : List ℕ)
     → ((room : List ℕ) → Bytes list → strings list room .number ≡ 0 → TableWakes list (result (strings list room)))
     × ((t room : List ℕ) → reduce t room .number ≡ 0 → TableWakes list t → TableWakes list (result (reduce t room)))
@@ -243,6 +254,8 @@ pub wakes : (list : List ℕ)
     × ((b room : List ℕ) → forward b room .number ≡ 0 → ImageWakes list b → ImageWakes list (result (forward b room)))
     × ((b room : List ℕ) → back b room .number ≡ 0 → ImageWakes list b → ImageWakes list (result (back b room)))
     × ((b room : List ℕ) → rewrite b room .number ≡ 0 → ImageWakes list b → ImageWakes list (result (rewrite b room)))
+    × ((b x room : List ℕ) → apply b x room .number ≡ 0 → tableOf (result (apply b x room)) ≡ tableOf b → ImageWakes list b
+    → ImageWakes list (result (apply b x room)) × TellsAll list (patchedScan b x (image.start b)))
 wakes list = (
   links.strings-wakes list,
   links.reduce-wakes list,
@@ -252,6 +265,7 @@ wakes list = (
   links.forward-wakes list,
   links.back-wakes list,
   links.rewrite-wakes list,
+  links.apply-wakes list,
 )
 
 -- What the look-up finds for a state and a byte is what the chain gives: so many steps on stands the server, the first state that stores the class.
@@ -356,6 +370,10 @@ pub determined : ((t : List ℕ) (n n′ : ℕ) → JudgesTable t n → JudgesTa
     → Scans b s payload room n t q k h r → Scans b s payload room n′ t′ q′ k′ h′ r′ → (n ≡ n′) × (t ≡ t′) × (q ≡ q′) × (k ≡ k′) × (h ≡ h′) × (r ≡ r′))
     × ((b : List ℕ) (s : ℕ) (payload room : List ℕ) (n t q k h n′ t′ q′ k′ h′ : ℕ) (r r′ : List ℕ)
     → Walks b s payload room n t q k h r → Walks b s payload room n′ t′ q′ k′ h′ r′ → (n ≡ n′) × (t ≡ t′) × (q ≡ q′) × (k ≡ k′) × (h ≡ h′) × (r ≡ r′))
+    × ((b x : List ℕ) (n n′ : ℕ) → JudgesPatch b x n → JudgesPatch b x n′ → n ≡ n′)
+    × ((b x room : List ℕ) (n l n′ l′ : ℕ) (r r′ : List ℕ) → Applies b x room n l r → Applies b x room n′ l′ r′ → SameBuilt n l r n′ l′ r′)
+    × ((b x : List ℕ) (s : ℕ) (payload room : List ℕ) (n t q k h n′ t′ q′ k′ h′ : ℕ) (r r′ : List ℕ)
+    → ScansPatched b x s payload room n t q k h r → ScansPatched b x s payload room n′ t′ q′ k′ h′ r′ → (n ≡ n′) × (t ≡ t′) × (q ≡ q′) × (k ≡ k′) × (h ≡ h′) × (r ≡ r′))
 determined = (
   only.judge-table-determined,
   only.judge-image-determined,
@@ -369,6 +387,9 @@ determined = (
   only.reduce-determined,
   only.scan-determined,
   only.walk-determined,
+  only.judge-patch-determined,
+  only.apply-determined,
+  only.patched-scan-determined,
 )
 
 -- The starred cases, one table, are right; the table of three states compacted with any D has 322 bytes and no defaults; and the cases of the requests, another table, are right.

@@ -141,6 +141,11 @@ pub bytes-payloads : Bytes aabbb × Bytes aaaaa
 unfolding allBytes
 bytes-payloads = (bytes-tested aabbb refl, bytes-tested aaaaa refl)
 
+-- So is the payload "a".
+pub bytes-a : Bytes (97 ∷ [])
+unfolding allBytes
+bytes-a = bytes-tested (97 ∷ []) refl
+
 -- So is the image of T with D 2.
 pub bytes-T2 : Bytes T2
 unfolding compacted

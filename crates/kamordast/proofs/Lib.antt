@@ -8,10 +8,14 @@ pub mod Rewritten
 pub mod StringsTold
 pub mod WordLists
 pub mod Reduction
+pub mod PatchedScans
+pub mod PatchExact
+pub mod Patches
 pub mod Wakes
 pub mod Known
 pub mod ShutOut
 pub mod ShutOutMoves
 pub mod ShutOutReduce
 pub mod ShutOutStrings
+pub mod ShutOutPatches
 pub mod Demands

@@ -25,7 +25,7 @@ use Rattle.scan.proofs.OneByte.{byte-reached}
 use Rattle.scan.proofs.Verdict.{image-numbered}
 
 -- With one number and one room the outcomes are the same where the scans are; of a refusal the scans do not matter.
-outcomes-equal : (v : ℕ) (r r′ : Run) (room : List ℕ) → (v ≡ 0 → r ≡ r′) → scanning v r room ≡ scanning v r′ room
+pub outcomes-equal : (v : ℕ) (r r′ : Run) (room : List ℕ) → (v ≡ 0 → r ≡ r′) → scanning v r room ≡ scanning v r′ room
 outcomes-equal zero r r′ room e = ap (λ (q : Run). scanning 0 q room) (e refl)
 outcomes-equal (suc v) r r′ room e = refl
 

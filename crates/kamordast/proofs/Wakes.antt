@@ -7,8 +7,8 @@ use Rattle.paper.specs.Labels.{Edition}
 use Rattle.paper.specs.Table as table
 use Rattle.paper.specs.Image as image
 use Rattle.paper.specs.Results.{moved, tableOf}
-use Rattle.paper.specs.Wakes.{Tells, TableWakes, ImageWakes}
-use Rattle.paper.specs.Operations.{Scanned, judgeImage, result, strings, reduce, compact, write, expand, forward, back, rewrite, scan, walk}
+use Rattle.paper.specs.Wakes.{Tells, TellsAll, TableWakes, ImageWakes}
+use Rattle.paper.specs.Operations.{Scanned, judgeImage, result, strings, reduce, compact, write, expand, forward, back, rewrite, scan, walk, apply, patchedScan}
 use Rattle.paper.specs.Promises.{SameWalk}
 use Rattle.facts.proofs.ImageFacts.{accepted-image}
 use Rattle.trips.proofs.TableOf.{table-reads, table-of-accepted}
@@ -22,6 +22,7 @@ use Rattle.kamordast.proofs.MovedScans as scans
 use Rattle.kamordast.proofs.Rewritten as rewriting
 use Rattle.kamordast.proofs.StringsTold as told
 use Rattle.kamordast.proofs.Reduction as reduction
+use Rattle.kamordast.proofs.Patches as patches
 
 -- An outcome that agrees with one that tells all tells all.
 tells-same : {list payload room : List ℕ} {o p : Scanned} → SameWalk o p → Tells list payload room o → Tells list payload room p
@@ -130,3 +131,17 @@ module _ (list : List ℕ) where
       let r = result (rewrite b room) in
       image-tells r (rewriting.left-bytes b room B e) (rewriting.left-accepted b room B e)
       (subst (λ (t : List ℕ). TableWakes list t) (sym (rewriting.left-table b room B e)) (table-tells b B (W .accepted) W))
+
+  -- Apply, where the patch leaves the table of the image as it was; and with it the patched scan.
+  pub apply-wakes : (b x room : List ℕ) → apply b x room .number ≡ 0 → tableOf (result (apply b x room)) ≡ tableOf b → ImageWakes list b
+      → ImageWakes list (result (apply b x room)) × TellsAll list (patchedScan b x (image.start b))
+  apply-wakes b x room e same W =
+      let B = W .readable in
+      let r = result (apply b x room) in
+      let (_, _, _, start, _, _) = patches.left-named b x room B e in
+      let told = image-tells r (patches.left-bytes b x room B e) (patches.left-accepted b x room B e) (subst (λ (t : List ℕ). TableWakes list t) (sym same) (table-tells b B (W .accepted) W)) in (
+        told,
+        λ payload reports P short enough.
+            subst (λ (o : Scanned). Tells list payload reports o) (sym (patches.left-scans b x room B e (image.start b) payload reports P ∙ ap (λ (s : ℕ). scan r s payload reports) (sym start)))
+            (told .tells payload reports P short enough),
+      )

@@ -2,14 +2,17 @@
 // For a Rattle caller that opens an accepted image once and reads it, the view and its readers are handed on; what they ask stands in crate `view`.
 use answers::Built;
 use answers::Scanned;
+pub use apply::apply;
 pub use build::compact;
 pub use build::write;
 pub use expand::expand;
 pub use image::Fallback;
 pub use image::Record;
 pub use judge::judge_image;
+pub use judgepatch::judge_patch;
 pub use moves::back;
 pub use moves::forward;
+pub use patchscan::scan_patched;
 pub use reduce::reduce;
 pub use rewrite::rewrite;
 pub use scan::scan;
@@ -23,7 +26,7 @@ pub use view::open;
 pub use view::record_from;
 pub use view::record_of;
 pub use walk::walk;
-ghost use Rattle.paper.specs.Promises.{JudgesTable, JudgesImage, Writes, Compacts, Expands, Rewrites, Tabulates, Reduces, MovesForward, MovesBack, Scans, Walks};
+ghost use Rattle.paper.specs.Promises.{JudgesTable, JudgesImage, Writes, Compacts, Expands, Rewrites, Tabulates, Reduces, MovesForward, MovesBack, Scans, Walks, JudgesPatch, Applies, ScansPatched};
 
 // Judges a plain table: 0, or the refusal's number.
 #[no_mangle]
@@ -142,4 +145,34 @@ pub extern "C" fn kamordast_walk(
     ensures { λ r. ⌜ Walks (now (table .entry)) state (now (payload .entry)) (now (room .entry)) (r .refused) (r .taken) (r .state) (r .reports) (r .hops) (now (room .exit)) ⌝ }
 {
     walk::walk(table, state, payload, room)
+}
+
+// Judges a patch against an image: 0, or the refusal's number.
+#[no_mangle]
+pub extern "C" fn kamordast_judge_patch<'a>(image: &'a [u8], patch: &'a [u8]) -> u32
+    ensures { λ r. ⌜ JudgesPatch (now (image .entry)) (now (patch .entry)) r ⌝ }
+{
+    judgepatch::judge_patch(image, patch)
+}
+
+// Applies a patch to an image: writes the new image at the front of the room.
+#[no_mangle]
+pub extern "C" fn kamordast_apply<'a>(image: &'a [u8], patch: &'a [u8], room: &mut [u8]) -> Built
+    ensures { λ r. ⌜ Applies (now (image .entry)) (now (patch .entry)) (now (room .entry)) (r .refused) (r .length) (now (room .exit)) ⌝ }
+{
+    apply::apply(image, patch, room)
+}
+
+// Scans a payload with an image and a patch from a state: as a scan of the applied image.
+#[no_mangle]
+pub extern "C" fn kamordast_scan_patched<'a>(
+    image: &'a [u8],
+    patch: &'a [u8],
+    state: u32,
+    payload: &[u8],
+    room: &mut [u8],
+) -> Scanned
+    ensures { λ r. ⌜ ScansPatched (now (image .entry)) (now (patch .entry)) state (now (payload .entry)) (now (room .entry)) (r .refused) (r .taken) (r .state) (r .reports) (r .hops) (now (room .exit)) ⌝ }
+{
+    patchscan::scan_patched(image, patch, state, payload, room)
 }

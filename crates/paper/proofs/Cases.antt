@@ -17,11 +17,13 @@ use Rattle.paper.specs.Forest.{weight, singles, endNear, joined, d, long
 use Rattle.paper.specs.FallBack.{levels, towardStart}
 use Rattle.paper.specs.Defaults.{defaults}
 use Rattle.paper.specs.Scan.{scanOf, walkOf}
-use Rattle.paper.specs.Operations.{judgeTable, judgeImage, compacted, compactGrounds, compact, writeGrounds, write, expandGrounds, expand, rewriteGrounds, rewrite, stringsGrounds, strings, reduceGrounds, reduce, forwardGrounds, forward, backGrounds, back, scanGrounds, scan, walkGrounds, walk}
+use Rattle.paper.specs.Operations.{judgeTable, judgeImage, compacted, compactGrounds, compact, writeGrounds, write, expandGrounds, expand, rewriteGrounds, rewrite, stringsGrounds, strings, reduceGrounds, reduce, forwardGrounds, forward, backGrounds, back, scanGrounds, scan, walkGrounds, walk, judgePatch, applyGrounds, apply, patchedScanGrounds, patchedScan}
 use Rattle.paper.specs.Rewrite.{rewritten}
 use Rattle.paper.specs.Strings as list
 use Rattle.paper.specs.Strings.{listBad, listLabelsBad, rules, names, spare, classes, classOf, byteOf, tooManyLabels, tableOfRules, tabulated}
 use Rattle.paper.specs.Reduce.{reduced}
+use Rattle.paper.specs.Patch as patch
+use Rattle.paper.specs.Patch.{listedAt, shapeBad, patchGrounds, applied, patchedScanOf}
 use Rattle.paper.specs.Text.{decimal, refusedLine, tooLongLine}
 use Rattle.paper.specs.Programs.{boundsHeader, boundsLine, boundsText, servedLines, servedText}
 use Rattle.paper.specs.Cases.{built, Case, right, room, starred, requested, three}
@@ -34,7 +36,7 @@ cases = (refl, λ D. refl)
 
 -- Every case of the requests is right.
 pub requests : right requested ≡ true
-unfolding number16 number32 bytes16 bytes32 _⊕_ checkWord labelCount label labelsFrom labelsBehind labels next tableGrounds stored depthOf worstOf viewGrounds image.labels image.default image.count image.entryAt imageGrounds firstLoaderGrounds labelBytes labelsHeld recordBytes entryBytes front trailer parts imageOfView entriesOf imageOf moved tableFrom tableOf weight singles endNear joined d longest joinedLongest addedOrDropped pairs neighbours isRoot root pointsTo forest towardRoot levels towardStart defaults scanOf judgeTable judgeImage compacted compactGrounds compact writeGrounds write expandGrounds expand rewritten rewriteGrounds rewrite list.label list.size list.string listBad listLabelsBad rules names spare classes classOf byteOf tooManyLabels tableOfRules tabulated stringsGrounds strings reduced reduceGrounds reduce forwardGrounds forward backGrounds back scanGrounds scan walkOf walkGrounds walk decimal refusedLine tooLongLine boundsHeader boundsLine boundsText servedLines servedText
+unfolding number16 number32 bytes16 bytes32 _⊕_ checkWord labelCount label labelsFrom labelsBehind labels next tableGrounds stored depthOf worstOf viewGrounds image.labels image.default image.count image.entryAt imageGrounds firstLoaderGrounds labelBytes labelsHeld recordBytes entryBytes front trailer parts imageOfView entriesOf imageOf moved tableFrom tableOf weight singles endNear joined d longest joinedLongest addedOrDropped pairs neighbours isRoot root pointsTo forest towardRoot levels towardStart defaults scanOf judgeTable judgeImage compacted compactGrounds compact writeGrounds write expandGrounds expand rewritten rewriteGrounds rewrite list.label list.size list.string listBad listLabelsBad rules names spare classes classOf byteOf tooManyLabels tableOfRules tabulated stringsGrounds strings reduced reduceGrounds reduce forwardGrounds forward backGrounds back scanGrounds scan walkOf walkGrounds walk patch.stateAt patch.default patch.count patch.entryAt listedAt shapeBad patchGrounds applied patchedScanOf judgePatch applyGrounds apply patchedScanGrounds patchedScan decimal refusedLine tooLongLine boundsHeader boundsLine boundsText servedLines servedText
 requests = refl
 
 -- Lists that are the same are equal.

@@ -3,7 +3,7 @@ use mathlib.Core.Path.{_≡_, sym, _∙_}
 use mathlib.Core.List.{List}
 use Prim.Native.Nat.{ℕ}
 use Rattle.paper.specs.Operations.{Built, Scanned}
-use Rattle.paper.specs.Promises.{IsBuilt, IsScanned, SameBuilt, JudgesTable, JudgesImage, Compacts, Writes, Expands, Rewrites, Tabulates, Reduces, MovesForward, MovesBack, Scans, Walks}
+use Rattle.paper.specs.Promises.{IsBuilt, IsScanned, SameBuilt, JudgesTable, JudgesImage, Compacts, Writes, Expands, Rewrites, Tabulates, Reduces, MovesForward, MovesBack, Scans, Walks, JudgesPatch, Applies, ScansPatched}
 
 -- Two answers to one question are one.
 one : {A : Type 0} {x y z : A} → x ≡ z → y ≡ z → x ≡ y
@@ -30,6 +30,10 @@ judge-table-determined t n n′ = one
 -- Judging an image.
 pub judge-image-determined : (b : List ℕ) (n n′ : ℕ) → JudgesImage b n → JudgesImage b n′ → n ≡ n′
 judge-image-determined b n n′ = one
+
+-- Judging a patch.
+pub judge-patch-determined : (b x : List ℕ) (n n′ : ℕ) → JudgesPatch b x n → JudgesPatch b x n′ → n ≡ n′
+judge-patch-determined b x n n′ = one
 
 -- Compact.
 pub compact-determined : (t : List ℕ) (order D : ℕ) (room : List ℕ) (n l n′ l′ : ℕ) (r r′ : List ℕ)
@@ -71,6 +75,11 @@ pub reduce-determined : (t room : List ℕ) (n l n′ l′ : ℕ) (r r′ : List
     → Reduces t room n l r → Reduces t room n′ l′ r′ → SameBuilt n l r n′ l′ r′
 reduce-determined t room = built-determined _
 
+-- Apply.
+pub apply-determined : (b x room : List ℕ) (n l n′ l′ : ℕ) (r r′ : List ℕ)
+    → Applies b x room n l r → Applies b x room n′ l′ r′ → SameBuilt n l r n′ l′ r′
+apply-determined b x room = built-determined _
+
 -- Scan.
 pub scan-determined : (b : List ℕ) (s : ℕ) (payload room : List ℕ) (n t q k h n′ t′ q′ k′ h′ : ℕ) (r r′ : List ℕ)
     → Scans b s payload room n t q k h r → Scans b s payload room n′ t′ q′ k′ h′ r′
@@ -82,3 +91,9 @@ pub walk-determined : (b : List ℕ) (s : ℕ) (payload room : List ℕ) (n t q 
     → Walks b s payload room n t q k h r → Walks b s payload room n′ t′ q′ k′ h′ r′
     → (n ≡ n′) × (t ≡ t′) × (q ≡ q′) × (k ≡ k′) × (h ≡ h′) × (r ≡ r′)
 walk-determined b s payload room = scanned-determined _
+
+-- The patched scan.
+pub patched-scan-determined : (b x : List ℕ) (s : ℕ) (payload room : List ℕ) (n t q k h n′ t′ q′ k′ h′ : ℕ) (r r′ : List ℕ)
+    → ScansPatched b x s payload room n t q k h r → ScansPatched b x s payload room n′ t′ q′ k′ h′ r′
+    → (n ≡ n′) × (t ≡ t′) × (q ≡ q′) × (k ≡ k′) × (h ≡ h′) × (r ≡ r′)
+patched-scan-determined b x s payload room = scanned-determined _

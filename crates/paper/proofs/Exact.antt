@@ -14,11 +14,12 @@ use Rattle.paper.specs.Image as image
 use Rattle.paper.specs.Image.{imageGrounds}
 use Rattle.paper.specs.Results.{tableView, imageOf, moved, tableOf}
 use Rattle.paper.specs.Scan.{Run, scanOf, walkOf}
-use Rattle.paper.specs.Operations.{judgeTable, judgeImage, building, scanning, listed, compacted, compactGrounds, compact, writeGrounds, write, expandGrounds, expand, rewriteGrounds, rewrite, stringsGrounds, strings, reduceGrounds, reduce, forwardGrounds, forward, backGrounds, back, runGrounds, scanGrounds, scan, walkGrounds, walk}
-use Rattle.paper.specs.Sentences.{Sentence, FirstOf, DefaultWrong, NotWorth, Returns, tableSentences, imageSentences, compactSentences, writeSentences, expandSentences, rewriteSentences, stringsSentences, reduceSentences, forwardSentences, backSentences, runSentences, scanSentences, walkSentences}
+use Rattle.paper.specs.Operations.{judgeTable, judgeImage, building, scanning, listed, compacted, compactGrounds, compact, writeGrounds, write, expandGrounds, expand, rewriteGrounds, rewrite, stringsGrounds, strings, reduceGrounds, reduce, forwardGrounds, forward, backGrounds, back, runGrounds, scanGrounds, scan, walkGrounds, walk, judgePatch, applyGrounds, apply, patchedScanGrounds, patchedScan}
+use Rattle.paper.specs.Sentences.{Sentence, FirstOf, DefaultWrong, NotWorth, Returns, tableSentences, imageSentences, compactSentences, writeSentences, expandSentences, rewriteSentences, stringsSentences, reduceSentences, forwardSentences, backSentences, runSentences, scanSentences, walkSentences, patchSentences, applySentences, patchedScanSentences}
 use Rattle.paper.specs.Rewrite.{notWorth, rewritten}
 use Rattle.paper.specs.Strings.{tabulated}
 use Rattle.paper.specs.Reduce.{reduced}
+use Rattle.paper.specs.Patch.{patchGrounds, applied, patchedScanOf}
 use Rattle.paper.proofs.Tests.{holds-less, holds-not-below, holds-differ, holds-or, holds-some}
 use Rattle.paper.proofs.Editions.{holds-not-one, holds-not-two}
 use Rattle.paper.proofs.Returns.{holds-returns}
@@ -28,6 +29,7 @@ use Rattle.paper.proofs.ViewSays.{holds-default, inside-list}
 use Rattle.paper.proofs.ImageSays.{image-says}
 use Rattle.paper.proofs.Worth.{holds-not-worth}
 use Rattle.paper.proofs.StringsSay.{strings-say}
+use Rattle.paper.proofs.PatchSays.{patch-says}
 
 -- Judging a table.
 pub judge-table-exact : (t : List ℕ) (number : ℕ) → judgeTable t ≡ number ↔ FirstOf (tableSentences t) number
@@ -38,6 +40,11 @@ judge-table-exact t = exact (tableGrounds t) (tableSentences t) (table-says t)
 pub judge-image-exact : (b : List ℕ) (number : ℕ) → judgeImage b ≡ number ↔ FirstOf (imageSentences b) number
 unfolding judgeImage
 judge-image-exact b = exact (imageGrounds b) (imageSentences b) (image-says b)
+
+-- Judging a patch.
+pub judge-patch-exact : (b x : List ℕ) (number : ℕ) → judgePatch b x ≡ number ↔ FirstOf (patchSentences b x) number
+unfolding judgePatch
+judge-patch-exact b x = exact (patchGrounds b x) (patchSentences b x) (patch-says b x)
 
 -- What builds answers the number of its grounds, and so does what scans.
 number-building : (number : ℕ) (result room : List ℕ) → building number result room .number ≡ number
@@ -197,3 +204,26 @@ unfolding walk
 walk-exact t s payload room number =
     through (walkGrounds t s payload) (walkSentences t s payload) _ number (number-scanning (first (walkGrounds t s payload)) (walkOf t s payload (length room)) room)
     (walk-says t s payload)
+
+apply-says : (b x : List ℕ) (room : ℕ) → Says (applyGrounds b x room) (applySentences b x room)
+unfolding applyGrounds applySentences
+apply-says b x room =
+    says-append (patchGrounds b x) _ (patchSentences b x) _ (patch-says b x) (refl, holds-less room (length (applied b x)), λ _. tt)
+
+-- Apply.
+pub apply-exact : (b x room : List ℕ) (number : ℕ) → apply b x room .number ≡ number ↔ FirstOf (applySentences b x (length room)) number
+unfolding apply
+apply-exact b x room number =
+    through (applyGrounds b x (length room)) (applySentences b x (length room)) _ number (number-building (first (applyGrounds b x (length room))) (applied b x) room)
+    (apply-says b x (length room))
+
+patched-scan-says : (b x : List ℕ) (s : ℕ) (payload : List ℕ) → Says (patchedScanGrounds b x s payload) (patchedScanSentences b x s payload)
+unfolding patchedScanGrounds patchedScanSentences
+patched-scan-says b x s payload = says-append (patchGrounds b x) _ (patchSentences b x) _ (patch-says b x) (run-says (image.states b) s payload)
+
+-- The patched scan.
+pub patched-scan-exact : (b x : List ℕ) (s : ℕ) (payload room : List ℕ) (number : ℕ) → patchedScan b x s payload room .number ≡ number ↔ FirstOf (patchedScanSentences b x s payload) number
+unfolding patchedScan
+patched-scan-exact b x s payload room number =
+    through (patchedScanGrounds b x s payload) (patchedScanSentences b x s payload) _ number
+    (number-scanning (first (patchedScanGrounds b x s payload)) (patchedScanOf b x s payload (length room)) room) (patched-scan-says b x s payload)

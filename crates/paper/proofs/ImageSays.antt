@@ -19,7 +19,7 @@ use Rattle.paper.proofs.TableSays.{holds-classes}
 use Rattle.paper.proofs.ViewSays.{view-says}
 
 -- A number that is not below 1 is above 0.
-some-states : (n : ℕ) → ¬ OutOf 1 512 n → 0 < n
+pub some-states : (n : ℕ) → ¬ OutOf 1 512 n → 0 < n
 some-states n w = go (decLt 0 n)
   where
     go : Dec (0 < n) → 0 < n
@@ -27,7 +27,7 @@ some-states n w = go (decLt 0 n)
     go (no h) = absurd (w (inl (omega arith)))
 
 -- Where no class is wrong, the class of each byte is below k.
-all-classed : (k : ℕ) (classOf : ℕ → ℕ) → ¬ ClassesWrong k classOf → (x : ℕ) → x < 256 → classOf x < k
+pub all-classed : (k : ℕ) (classOf : ℕ → ℕ) → ¬ ClassesWrong k classOf → (x : ℕ) → x < 256 → classOf x < k
 all-classed k classOf w x hx = go (decLt (classOf x) k)
   where
     go : Dec (classOf x < k) → classOf x < k

@@ -20,6 +20,7 @@ pub mod TableSays
 pub mod ImageSays
 pub mod Worth
 pub mod StringsSay
+pub mod PatchSays
 pub mod Exact
 pub mod Refused
 pub mod Determined

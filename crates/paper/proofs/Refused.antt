@@ -7,10 +7,11 @@ use Rattle.paper.specs.Refusals.{first}
 use Rattle.paper.specs.Labels.{one, two}
 use Rattle.paper.specs.Results.{imageOf, moved, tableOf}
 use Rattle.paper.specs.Scan.{Run, scanOf, walkOf}
-use Rattle.paper.specs.Operations.{Unchanged, building, scanning, filled, listed, compacted, compactGrounds, compact, writeGrounds, write, expandGrounds, expand, rewriteGrounds, rewrite, stringsGrounds, strings, reduceGrounds, reduce, forwardGrounds, forward, backGrounds, back, scanGrounds, scan, walkGrounds, walk}
+use Rattle.paper.specs.Operations.{Unchanged, building, scanning, filled, listed, compacted, compactGrounds, compact, writeGrounds, write, expandGrounds, expand, rewriteGrounds, rewrite, stringsGrounds, strings, reduceGrounds, reduce, forwardGrounds, forward, backGrounds, back, scanGrounds, scan, walkGrounds, walk, applyGrounds, apply, patchedScanGrounds, patchedScan}
 use Rattle.paper.specs.Rewrite.{rewritten}
 use Rattle.paper.specs.Strings.{tabulated}
 use Rattle.paper.specs.Reduce.{reduced}
+use Rattle.paper.specs.Patch.{applied, patchedScanOf}
 use Rattle.paper.specs.Promises.{IsBuilt}
 
 -- A refusal answers its number and 0, and leaves the room.
@@ -67,6 +68,11 @@ pub reduce-refused : (t room : List ℕ) → ¬ (reduce t room .number ≡ 0) �
 unfolding reduce
 reduce-refused t room = building-refused (first (reduceGrounds t (length room))) (reduced t) room
 
+-- Apply.
+pub apply-refused : (b x room : List ℕ) → ¬ (apply b x room .number ≡ 0) → Unchanged (apply b x room) room
+unfolding apply
+apply-refused b x room = building-refused (first (applyGrounds b x (length room))) (applied b x) room
+
 scanning-refused : (number : ℕ) (r : Run) (room : List ℕ) → ¬ (scanning number r room .number ≡ 0)
     → (scanning number r room .taken ≡ 0) × (scanning number r room .state ≡ 0) × (scanning number r room .reports ≡ 0) × (scanning number r room .hops ≡ 0) × (scanning number r room .room ≡ room)
 scanning-refused zero r room n = absurd (n refl)
@@ -83,3 +89,9 @@ pub walk-refused : (t : List ℕ) (s : ℕ) (payload room : List ℕ) → ¬ (wa
     → (walk t s payload room .taken ≡ 0) × (walk t s payload room .state ≡ 0) × (walk t s payload room .reports ≡ 0) × (walk t s payload room .hops ≡ 0) × (walk t s payload room .room ≡ room)
 unfolding walk
 walk-refused t s payload room = scanning-refused (first (walkGrounds t s payload)) (walkOf t s payload (length room)) room
+
+-- The patched scan.
+pub patched-scan-refused : (b x : List ℕ) (s : ℕ) (payload room : List ℕ) → ¬ (patchedScan b x s payload room .number ≡ 0)
+    → (patchedScan b x s payload room .taken ≡ 0) × (patchedScan b x s payload room .state ≡ 0) × (patchedScan b x s payload room .reports ≡ 0) × (patchedScan b x s payload room .hops ≡ 0) × (patchedScan b x s payload room .room ≡ room)
+unfolding patchedScan
+patched-scan-refused b x s payload room = scanning-refused (first (patchedScanGrounds b x s payload)) (patchedScanOf b x s payload (length room)) room

@@ -37,9 +37,18 @@ exact (g ∷ gs) (s ∷ ss) (e, h, more) number = go (g .1) refl (λ n. exact gs
         back (inl (a, m)) = absurd (not-s a)
         back (inr (n, f)) = ih n .1 f
 
+-- None of the sentences holds.
+abbrev pub NoneOf : List Sentence → Type 0
+NoneOf [] = Unit {0}
+NoneOf (s ∷ ss) = (¬ s .1) × NoneOf ss
+
+-- One list after another, which need only be said where none of the first holds.
+pub says-after : (a b : List Ground) (x y : List Sentence) → Says a x → (NoneOf x → Says b y) → Says (a ++ b) (x ++ y)
+says-after [] b [] y w z = z tt
+says-after [] b (s ∷ ss) y w z = absurd w
+says-after (g ∷ gs) b [] y w z = absurd w
+says-after (g ∷ gs) b (s ∷ ss) y (e, h, more) z = (e, h, λ n. says-after gs b ss y (more n) (λ none. z (n, none)))
+
 -- One list after another.
 pub says-append : (a b : List Ground) (x y : List Sentence) → Says a x → Says b y → Says (a ++ b) (x ++ y)
-says-append [] b [] y w z = z
-says-append [] b (s ∷ ss) y w z = absurd w
-says-append (g ∷ gs) b [] y w z = absurd w
-says-append (g ∷ gs) b (s ∷ ss) y (e, h, more) z = (e, h, λ n. says-append gs b ss y (more n) z)
+says-append a b x y w z = says-after a b x y w (λ _. z)

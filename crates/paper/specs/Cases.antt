@@ -1,10 +1,10 @@
 -- The cases that the paper marks with a star, and those of the requests: two tables, each one statement.
 use mathlib.Core.Bool.{Bool, true, _&&_}
 use mathlib.Core.List.{List, [], _∷_, _++_, map}
-use Prim.Native.Nat.{ℕ}
+use Prim.Native.Nat.{ℕ, _+_, _*_}
 use lib.ListN.{length, replicate, take, drop}
 use Rattle.paper.specs.Below.{sum, same, list, or}
-use Rattle.paper.specs.Words.{bytes16, all16, bytes32, checkWord}
+use Rattle.paper.specs.Words.{bytes16, all16, bytes32, words, checkWord}
 use Rattle.paper.specs.Refusals.{first}
 use Rattle.paper.specs.Labels.{two}
 use Rattle.paper.specs.Table.{states}
@@ -16,7 +16,7 @@ use Rattle.paper.specs.Forest.{Trees, weight, singles, joined, root, lea
 use Rattle.paper.specs.FallBack.{level}
 use Rattle.paper.specs.Strings.{tabulated}
 use Rattle.paper.specs.Reduce.{reduced}
-use Rattle.paper.specs.Operations.{judgeTable, judgeImage, Built, compacted, compact, listed, write, expand, rewrite, strings, reduce, forward, back, Scanned, scan, walk}
+use Rattle.paper.specs.Operations.{judgeTable, judgeImage, Built, compacted, compact, listed, write, expand, rewrite, strings, reduce, forward, back, Scanned, scan, walk, judgePatch, apply, patchedScan}
 use Rattle.paper.specs.Programs.{boundsText, servedText}
 
 -- The classes of the bytes where 'a' is class x, 'b' class y and every other byte 0.
@@ -161,6 +161,20 @@ twice =
     all16 (5 ∷ 3 ∷ 2 ∷ []) ++ classesOf 1 2 ++ all16 (0 ∷ 5 ∷ 0 ∷ 5 ∷ 0 ∷ [])
     ++ all16 (0 ∷ 0 ∷ 0 ∷ []) ++ all16 (1 ∷ 3 ∷ 2 ∷ []) ++ all16 (2 ∷ 1 ∷ 4 ∷ []) ++ all16 (3 ∷ 1 ∷ 4 ∷ []) ++ all16 (4 ∷ 3 ∷ 2 ∷ [])
 
+-- A patch that fits an image: these words, with q entries at their end, and the trailer.
+abbrev pub patchFor : List ℕ → ℕ → List ℕ → List ℕ
+patchFor b q ws =
+    let body = all16 ws ++ bytes32 (4 * q + 12) ++ bytes32 (2 * length ws + 12) ++ bytes16 (image.check b) in
+    body ++ bytes16 (checkWord (words body))
+
+-- The patch that makes state 3 of T's image with D 2 a root.
+abbrev pub X3 : List ℕ
+X3 = patchFor T2 3 (1 ∷ 1 ∷ 1 ∷ 3 ∷ 0 ∷ 3 ∷ 65535 ∷ 3 ∷ 0 ∷ 0 ∷ 1 ∷ 1 ∷ 2 ∷ 0 ∷ [])
+
+-- The patch that gives state 0 the row (0,1,2): the entry of state 1, which it does not list, is then what its default gives.
+abbrev pub X0 : List ℕ
+X0 = patchFor T2 3 (1 ∷ 1 ∷ 1 ∷ 3 ∷ 0 ∷ 0 ∷ 65535 ∷ 3 ∷ 0 ∷ 0 ∷ 1 ∷ 1 ∷ 2 ∷ 2 ∷ [])
+
 -- The starred cases in the paper's order; 65535 is no default, and a room is 255 where it is not written.
 abbrev pub starred : List Case
 starred =
@@ -234,4 +248,7 @@ requested =
     ∷ (reduced eight, all16 (1 ∷ 3 ∷ 0 ∷ []) ++ classesOf 1 2 ++ replicate 8 0)
     ∷ (reduced twice, all16 (2 ∷ 3 ∷ 1 ∷ []) ++ classesOf 1 2 ++ all16 (5 ∷ 0 ∷ 0 ∷ 0 ∷ 1 ∷ 1 ∷ 0 ∷ 1 ∷ []))
     ∷ (reduce twice (room 278) .number ∷ reduce twice (room 277) .number ∷ reduce (take 5 twice) [] .number ∷ [], 0 ∷ 16 ∷ 1 ∷ [])
+    ∷ (length X3 ∷ map (judgePatch T2) (X3 ∷ X0 ∷ take 39 X3 ∷ []) ++ (judgePatch T3 X3 ∷ []), 40 ∷ 0 ∷ 12 ∷ 22 ∷ 23 ∷ [])
+    ∷ (apply T2 X3 (room 336) .room, imageOf T (listed (all16 (65535 ∷ 0 ∷ 0 ∷ 65535 ∷ []))))
+    ∷ (scanned (scan T2 3 (97 ∷ []) (room 6)) ++ scanned (patchedScan T2 X3 3 (97 ∷ []) (room 6)), (0 ∷ 1 ∷ 1 ∷ 0 ∷ 1 ∷ room 6) ++ (0 ∷ 1 ∷ 1 ∷ 0 ∷ 0 ∷ room 6))
     ∷ []

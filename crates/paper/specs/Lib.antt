@@ -19,6 +19,7 @@ pub mod Reached
 pub mod Rewrite
 pub mod Strings
 pub mod Reduce
+pub mod Patch
 pub mod Operations
 pub mod Text
 pub mod Programs

@@ -18,6 +18,8 @@ use Rattle.paper.specs.Rewrite.{rewritten}
 use Rattle.paper.specs.Strings as list
 use Rattle.paper.specs.Strings.{rules, names, labelsEnding, tabulated}
 use Rattle.paper.specs.Reduce.{reduced}
+use Rattle.paper.specs.Patch as patch
+use Rattle.paper.specs.Patch.{patchLength, patchedView, applied}
 use Rattle.paper.specs.Operations.{listed, compacted}
 
 -- A sentence: the refusal's number, and when it is given.
@@ -211,3 +213,40 @@ scanSentences b s payload = imageSentences b ++ runSentences (image.states b) s 
 -- Walk: the table's, 14, 15.
 unfoldable pub walkSentences : List ℕ → ℕ → List ℕ → List Sentence
 walkSentences t s payload = tableSentences t ++ runSentences (table.states t) s payload
+
+-- A patch's shape is wrong: under 22 bytes, p out of range, a length that p and q don't give, a wrong length or distance back in the trailer, or a differing check word.
+abbrev pub ShapeWrong : List ℕ → Type 0
+ShapeWrong x =
+    let p = patch.listedStates x in
+    let q = patch.entries x in
+    (length x < 22)
+    ⊎ (OutOf 1 64 p
+    ⊎ ((¬ (length x ≡ patchLength p q))
+    ⊎ ((¬ (patch.wholeLength x ≡ length x))
+    ⊎ ((¬ (patch.distanceBack x ≡ 4 * q + 12))
+    ⊎ (¬ (patch.check x ≡ checkWord (words (take (length x - 2) x))))))))
+
+-- A listed state is not above the one before, or not below n.
+abbrev pub StateWrong : List ℕ → ℕ → ℕ → Type 0
+StateWrong x n i = ((j : ℕ) × (i ≡ suc j) × (¬ (patch.stateAt x j < patch.stateAt x i))) ⊎ (¬ (patch.stateAt x i < n))
+
+-- A patch against an image: the image's, 22, 23, 24, 8 to 13.
+unfoldable pub patchSentences : List ℕ → List ℕ → List Sentence
+patchSentences b x =
+    let n = image.states b in
+    let p = patch.listedStates x in
+    let v = patchedView b x in
+    imageSentences b
+    ++ ((22, ShapeWrong x)
+    ∷ (23, ¬ (patch.imageWord x ≡ image.check b))
+    ∷ (24, Some p (StateWrong x n))
+    ∷ (8, ¬ (sum p (patch.count x) ≡ patch.entries x))
+    ∷ viewSentences v (image.classOf b) (sum n (v .count)) (patch.depth x) (patch.worst x))
+
+-- Apply: the patch's against the image, 16.
+unfoldable pub applySentences : List ℕ → List ℕ → ℕ → List Sentence
+applySentences b x room = patchSentences b x ++ ((16, room < length (applied b x)) ∷ [])
+
+-- The patched scan: the patch's against the image, 14, 15.
+unfoldable pub patchedScanSentences : List ℕ → List ℕ → ℕ → List ℕ → List Sentence
+patchedScanSentences b x s payload = patchSentences b x ++ runSentences (image.states b) s payload

@@ -22,7 +22,8 @@ use Rattle.trips.proofs.ImageOf.{reads}
 use Rattle.trips.proofs.TableOf.{table-of-writable, image-of-table}
 use Rattle.trips.proofs.ResultBytes.{table-of-bytes}
 use Rattle.image.proofs.Accepted.{accepted-laid}
-use Rattle.image.proofs.Parts.{Between, part-between, between}
+use Rattle.image.proofs.Places.{Between}
+use Rattle.image.proofs.Parts.{part-between, between}
 use Rattle.chains.specs.Sweeps.{Falls}
 use Rattle.chains.proofs.Defaults.{from-none}
 use Rattle.build.specs.Pieces.{classesAndLabels, keptEntry, keptRow}

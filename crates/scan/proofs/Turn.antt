@@ -22,6 +22,26 @@ pub going-small : {b : List ℕ} {most state : ℕ} {payload room₀ room : List
     → length payload ≤ 65536 → Small b r
 going-small g h = record { inside = g .inside; cheap = omega (arith, g .cheap, g .within) }
 
+-- What a state of an accepted image reports, by its number and its tag.
+module _ (b : List ℕ) (target state tag : ℕ) (state-is : state ≡ target) (tag-is : tag ≡ tagOf b 268 target) (A : AcceptedImage b) (inside : target < states b)
+    (firsts : List ℕ) (word : ℕ) (T : Tagged b firsts word) where
+  -- Where its first label stands in edition 2.
+  abbrev from : ℕ
+  from = 268 + 2 * getD firsts state 0
+
+  -- Its labels are those that its tag stands for.
+  pub labels-are : labels b target ≡ tagged (editionOf word) b from tag
+  unfolding labels
+  labels-are = rw (T .edition-is, state-is, tag-is) (labels-tagged b 268 (states b) (edition b) firsts (T .firsts-are) target inside)
+
+  -- They are few.
+  pub labels-few : length (tagged (editionOf word) b from tag) ≤ 16
+  labels-few = rw (← labels-are) (omega (arith, A .all-labelled target inside .few, most-16 (edition b)))
+
+  -- In edition 2 they stand in the image.
+  pub labels-in : editionOf word ≡ two → from + 2 * tag ≤ length b
+  labels-in e = rw (state-is, tag-is) (tagged-in b 268 (states b) (edition b) firsts (T .firsts-are) target inside (sym (T .edition-is) ∙ e) (omega (arith, A .long)))
+
 module _ (b : List ℕ) (r : Run) (byte : ℕ) (t : Taken) (t-is : t ≡ takenOf b r byte) where
   -- The state that it goes to.
   abbrev target : ℕ
@@ -37,24 +57,6 @@ module _ (b : List ℕ) (r : Run) (byte : ℕ) (t : Taken) (t-is : t ≡ takenOf
   hops-are = ap (λ (t : Taken). t .run .hops) t-is
 
   -- Its tag.
-  tag-is : t .tag ≡ tagOf b 268 target
+  pub tag-is : t .tag ≡ tagOf b 268 target
   unfolding takenOf
   tag-is = ap (λ (t : Taken). t .tag) t-is
-
-  module _ (A : AcceptedImage b) (inside : target < states b) (firsts : List ℕ) (word : ℕ) (T : Tagged b firsts word) where
-    -- Where its first label stands in edition 2.
-    abbrev from : ℕ
-    from = 268 + 2 * getD firsts (t .run .state) 0
-
-    -- Its labels are those that its tag stands for.
-    pub labels-are : labels b target ≡ tagged (editionOf word) b from (t .tag)
-    unfolding labels
-    labels-are = rw (T .edition-is, target-is, tag-is) (labels-tagged b 268 (states b) (edition b) firsts (T .firsts-are) target inside)
-
-    -- They are few.
-    pub labels-few : length (tagged (editionOf word) b from (t .tag)) ≤ 16
-    labels-few = rw (← labels-are) (omega (arith, A .all-labelled target inside .few, most-16 (edition b)))
-
-    -- In edition 2 they stand in the image.
-    pub labels-in : editionOf word ≡ two → from + 2 * t .tag ≤ length b
-    labels-in e = rw (target-is, tag-is) (tagged-in b 268 (states b) (edition b) firsts (T .firsts-are) target inside (sym (T .edition-is) ∙ e) (omega (arith, A .long)))

@@ -4,4 +4,5 @@ pub mod Defaults
 pub mod Worst
 pub mod Far
 pub mod Sweeping
+pub mod Imaged
 pub mod Verdict

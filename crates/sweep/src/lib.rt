@@ -17,7 +17,7 @@ ghost use Rattle.sweep.specs.Cursors.{Cursors, ownAt, behind};
 // The default of each state as a number, 65535 for none.
 pub fn defaults_of(image: &[u8], n: usize, m: usize) -> [u16; 512]
     requires { ⌜ Passed (now image) n (classes (now image)) m ⌝ }
-    ensures { λ r. ⌜ Falls (imageView (now (image .entry))) n r ⌝ }
+    ensures { λ r. ⌜ Falls (imageView (now (image .entry))) n r × (length r ≡ 512) ⌝ }
 {
     let records = image.len() - (4 * m + 12) - 4 * n;
     let mut def = [0u16; 512];

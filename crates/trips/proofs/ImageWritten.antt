@@ -1,6 +1,7 @@
--- The image of a view that fits reads as what it was written from.
+-- The image of a view whose numbers have room in its bytes reads as what it was written from.
 use mathlib.Core.Path.{_≡_, refl, sym, ap, _∙_}
 use mathlib.Core.List.{List, _++_}
+use mathlib.Core.Option.{some}
 use Prim.Native.Nat.{ℕ, _+_, _-_, _*_, _≤_, _<_}
 use native.Mathlib.Nat.{mul-le-mul}
 use native.Mathlib.Omega.{arith}
@@ -12,10 +13,10 @@ use Rattle.paper.specs.Image as image
 use Rattle.paper.specs.Image.{defaultFrom, imageLength}
 use Rattle.paper.specs.Results.{defaultNumber, labelsHeld, recordBytes, entryBytes, front, trailer, imageOfView}
 use Rattle.paper.proofs.Editions.{edition-read, states-read, word-small}
-use Rattle.paper.proofs.Labels.{labels-named, held-bound}
+use Rattle.paper.proofs.Labels.{Small, labels-named, held-bound}
 use Rattle.paper.proofs.Chain.{chain-short, depth-met}
 use Rattle.paper.proofs.Look.{worst-le-depth}
-use Rattle.facts.proofs.LabelFacts.{most-16}
+use Rattle.facts.proofs.LabelFacts.{Labelled, most-16}
 use Rattle.trips.proofs.Spans.{Spans, spans-move, spans-part, spans-take, peel}
 use Rattle.trips.proofs.Numbers.{read16, read32, read-pair, read-bytes}
 use Rattle.trips.proofs.Labels.{default-back}
@@ -44,7 +45,22 @@ trailer-reads b x n m l w z h hd hl hw =
     let (p₁, q₁) = peel (bytes32 (imageLength n m l)) (bytes16 w) (x + 8) q₀ (omega arith) in
     (read32 (4 * m + 12) p₀ hd, read32 (imageLength n m l) p₁ hl, read16 w q₁ hw)
 
-module _ (e : Edition) (v : View) (start : ℕ) (classOf : ℕ → ℕ) (labels : ℕ → List ℕ) (F : Fits e v start classOf labels) where
+-- The numbers of a view, with its start state and its labels, have room in the bytes of an image, whether the view is sound or not.
+pub record Holds (e : Edition) (v : View) (start : ℕ) (classOf : ℕ → ℕ) (labels : ℕ → List ℕ) : Type 0 where
+  pub few-states : v .states ≤ 512
+  pub few-classes : v .classes < 65536
+  pub begins : start < 65536
+  pub all-labelled : (s : ℕ) → s < v .states → Labelled e (labels s)
+  pub all-small : (s : ℕ) → s < v .states → Small (labels s)
+  pub total-few : total v ≤ 33554432
+  pub default-fits : (s d : ℕ) → s < v .states → v .default s ≡ some d → d < 65535
+  pub count-fits : (s : ℕ) → s < v .states → v .count s < 65536
+  pub class-fits : (s j : ℕ) → s < v .states → j < v .count s → v .entryClass s j < 65536
+  pub next-fits : (s j : ℕ) → s < v .states → j < v .count s → v .entryNext s j < 65536
+  pub deep : depthOf v < 65536
+  pub far : worstOf v classOf < 65536
+
+module _ (e : Edition) (v : View) (start : ℕ) (classOf : ℕ → ℕ) (labels : ℕ → List ℕ) (F : Holds e v start classOf labels) where
   -- n, the number of states.
   abbrev n : ℕ
   n = v .states
@@ -64,14 +80,11 @@ module _ (e : Edition) (v : View) (start : ℕ) (classOf : ℕ → ℕ) (labels 
   P : Placed e v start classOf labels i
   P = image-placed e v start classOf labels .0
 
-  small : m ≤ 131072
-  small = omega (arith, total-bound e v start classOf labels F, mul-le-mul (F .few-states) (F .few-classes))
+  small : m ≤ 33554432
+  small = F .total-few
 
   few : held ≤ 8192
   few = omega (arith, held-bound e n 16 labels (λ s hs. omega (arith, F .all-labelled s hs .few, most-16 e)), F .few-states)
-
-  deep : depthOf v < n
-  deep = let (s, hs, e) = depth-met v (F .some-states) (F .right .ends) in chain-short v n s (depthOf v) e
 
   long : length i ≡ imageLength n m held
   long = image-length e v start classOf labels
@@ -79,7 +92,7 @@ module _ (e : Edition) (v : View) (start : ℕ) (classOf : ℕ → ℕ) (labels 
   fronts : (image.edition i ≡ e) × (image.states i ≡ n) × (image.classes i ≡ v .classes) × (image.start i ≡ start) × (image.depth i ≡ depthOf v) × (image.entries i ≡ m)
   fronts =
       front-reads i e n (v .classes) start (depthOf v) m 12 (P .at-front)
-      (omega (arith, F .few-states)) (omega (arith, F .few-classes)) (omega (arith, F .begins, F .few-states)) (omega (arith, deep, F .few-states)) (omega (arith, small))
+      (omega (arith, F .few-states)) (F .few-classes) (F .begins) (F .deep) (omega (arith, small))
 
   trailers : (image.distanceBack i ≡ 4 * m + 12) × (image.wholeLength i ≡ imageLength n m held) × (image.worst i ≡ worstOf v classOf)
   trailers =
@@ -88,7 +101,7 @@ module _ (e : Edition) (v : View) (start : ℕ) (classOf : ℕ → ℕ) (labels 
       let e₁ : length i - 8 ≡ x + 4 = omega (arith, long) in
       let e₂ : length i - 4 ≡ x + 8 = omega (arith, long) in
       let (d, w, h) = trailer-reads i x n m held (worstOf v classOf) (checkPlace v held) (P .at-end)
-      (omega (arith, small)) (omega (arith, small, few, F .few-states)) (omega (arith, worst-le-depth v classOf (F .right .ends), deep, F .few-states)) in
+      (omega (arith, small)) (omega (arith, small, few, F .few-states)) (F .far) in
       (ap (number32 i) e₀ ∙ d, ap (number32 i) e₁ ∙ w, ap (number16 i) e₂ ∙ h)
 
   check-small : (ws : List ℕ) → checkWord ws < 65536
@@ -107,10 +120,10 @@ module _ (e : Edition) (v : View) (start : ℕ) (classOf : ℕ → ℕ) (labels 
   unfolding recordBytes
   record-reads s hs =
       let (_, N, _, _, _, M) = fronts in
-      let (fits, back) = default-back (v .default s) (λ d q. omega (arith, F .right .inside s d hs q, F .few-states)) in
+      let (fits, back) = default-back (v .default s) (λ d q. F .default-fits s d hs q) in
       let (p, q) = read-pair (defaultNumber (v .default s)) (v .count s)
       (spans-part (recordBytes v) (recordPlace v held) (record-wide v held) n s (spans-move (P .at-records) (omega arith) refl) hs)
-      fits (omega (arith, F .right .few s hs, F .few-classes)) in
+      fits (F .count-fits s hs) in
       (default-at v held i long N M s ∙ ap defaultFrom p ∙ back, count-at v held i long N M s ∙ q)
 
   place : (s j : ℕ) → s < n → image.entryAt i s j ≡ entryPlace v held s j
@@ -122,12 +135,12 @@ module _ (e : Edition) (v : View) (start : ℕ) (classOf : ℕ → ℕ) (labels 
       let rows = spans-part (entryBytes v) (rowPlace v held) (row-wide v held) n s (spans-move (P .at-entries) (omega arith) refl) hs in
       rw (place s j hs)
       (read-pair (v .entryClass s j) (v .entryNext s j) (spans-part (entry v s) (entryPlace v held s) (entry-wide v held s) (v .count s) j (spans-move rows (omega arith) refl) hj)
-      (omega (arith, F .right .class-below s j hs hj, F .few-classes)) (omega (arith, F .right .next-below s j hs hj, F .few-states)))
+      (F .class-fits s j hs hj) (F .next-fits s j hs hj))
 
   -- All that was written is read.
-  pub image-reads : ImageReads e v start classOf labels i
+  pub held-reads : ImageReads e v start classOf labels i
   unfolding image.labels
-  image-reads =
+  held-reads =
       let (E, N, K, A, D, M) = fronts in
       let (back, whole, far) = trailers in
       record {
@@ -152,3 +165,27 @@ module _ (e : Edition) (v : View) (start : ℕ) (classOf : ℕ → ℕ) (labels 
         worst-is = far;
         check-is = checks;
       }
+
+-- The numbers of a view that fits have room.
+fits-holds : {e : Edition} {v : View} {start : ℕ} {classOf : ℕ → ℕ} {labels : ℕ → List ℕ} → Fits e v start classOf labels → Holds e v start classOf labels
+fits-holds {e} {v} {start} {classOf} {labels} F =
+    let (s, hs, q) = depth-met v (F .some-states) (F .right .ends) in
+    let deep = chain-short v (v .states) s (depthOf v) q in
+    record {
+      few-states = F .few-states;
+      few-classes = omega (arith, F .few-classes);
+      begins = omega (arith, F .begins, F .few-states);
+      all-labelled = F .all-labelled;
+      all-small = F .all-small;
+      total-few = omega (arith, total-bound e v start classOf labels F, mul-le-mul (F .few-states) (F .few-classes));
+      default-fits = λ s d hs q. omega (arith, F .right .inside s d hs q, F .few-states);
+      count-fits = λ s hs. omega (arith, F .right .few s hs, F .few-classes);
+      class-fits = λ s j hs hj. omega (arith, F .right .class-below s j hs hj, F .few-classes);
+      next-fits = λ s j hs hj. omega (arith, F .right .next-below s j hs hj, F .few-states);
+      deep = omega (arith, deep, F .few-states);
+      far = omega (arith, worst-le-depth v classOf (F .right .ends), deep, F .few-states);
+    }
+
+-- So all that was written of it is read.
+pub image-reads : (e : Edition) (v : View) (start : ℕ) (classOf : ℕ → ℕ) (labels : ℕ → List ℕ) → Fits e v start classOf labels → ImageReads e v start classOf labels (imageOfView e v start classOf labels)
+image-reads e v start classOf labels F = held-reads e v start classOf labels (fits-holds F)

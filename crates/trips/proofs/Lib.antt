@@ -30,5 +30,7 @@ pub mod WritesBack
 pub mod WorthBuilt
 pub mod EditionKept
 pub mod Moved
+pub mod Applied
+pub mod AppliedBack
 pub mod Moves
 pub mod MovesBack

@@ -12,6 +12,7 @@ use Rattle.paper.specs.View.{View}
 use Rattle.paper.specs.Image as image
 use Rattle.paper.specs.Image.{imageLength, imageView}
 use Rattle.paper.specs.Results.{defaultNumber, labelNumber, labelBytes, recordBytes, entryBytes, front, trailer, parts, imageOfView, tableView, imageOf, moved, tableFrom, tableOf}
+use Rattle.paper.specs.Patch.{patchedView, applied}
 
 -- A part of bytes only.
 record Part (b : List ℕ) : Type 0 where
@@ -115,3 +116,8 @@ table-of-bytes b B = table-part (image.edition b) (image.states b) (image.classe
 pub moved-bytes : (e : Edition) (b : List ℕ) → Bytes b → Bytes (moved e b)
 unfolding moved
 moved-bytes e b B = image-part e (imageView b) (image.start b) (image.classOf b) (image.labels b) (λ x. B (12 + x)) .are
+
+-- An image with a patch applied is bytes.
+pub applied-bytes : (b x : List ℕ) → Bytes b → Bytes (applied b x)
+unfolding applied
+applied-bytes b x B = image-part (image.edition b) (patchedView b x) (image.start b) (image.classOf b) (image.labels b) (λ x. B (12 + x)) .are

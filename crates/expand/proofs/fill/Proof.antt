@@ -28,7 +28,7 @@ defaults-of-requires c κs =
 order-of-requires : tie.Need-order-of-requires
 order-of-requires c κs =
     let start = c .before .before .before .before .before .before in
-    (omega (arith, start .pre .0 .few-states, start .pre .2), kept-range (now (start .args .image)) (start .pre .0) (c .before .defaults-of .ensures))
+    (omega (arith, start .pre .0 .few-states, start .pre .2), kept-range (now (start .args .image)) (start .pre .0) (c .before .defaults-of .ensures .0))
 
 put-front-requires : tie.Need-put-front-requires
 put-front-requires c κs =
@@ -43,13 +43,13 @@ put-rows-requires c κs =
     let begun = read .before in
     let start = begun .before .before .before .before in
     let order = ordered .order-of in
-    let ends = kept-ends (now (start .args .image)) (start .pre .0) (read .defaults-of .ensures) (order .result .endless) (order .ensures .0) in (
+    let ends = kept-ends (now (start .args .image)) (start .pre .0) (read .defaults-of .ensures .0) (order .result .endless) (order .ensures .0) in (
       record {
         accepted = start .pre .0;
         first-is = start .pre .1;
         classes-are = start .pre .3;
         begin = begun .begins-of .ensures;
-        falls = rw (start .pre .2) at (read .defaults-of .ensures);
+        falls = rw (start .pre .2) at (read .defaults-of .ensures .0);
         fits = omega (arith, fronted .put-front .ensures .kept .long, rw (start .pre .2) at (start .pre .4));
       },
       start .pre .2,

@@ -3,13 +3,15 @@ use mathlib.Core.Path.{refl}
 use Prim.Native.Nat.{_+_, _*_, _-_}
 use native.Mathlib.Omega.{arith}
 use borrow.Author.Needs.{needs}
-use lib.ListN.{set}
-use Rattle.image.proofs.Begins.{Begun, Sizes, sizes, begun-start, begun-more, begun-done}
+use lib.ListN.{length, set}
+use Rattle.paper.specs.Image.{entryAt}
+use Rattle.image.proofs.Places.{Begun}
+use Rattle.image.proofs.Begins.{Sizes, sizes, begun-start, begun-more, begun-done}
 use Rattle.image.proofs.begins_of.Statement.{statement}
 use Rattle.image.proofs.begins_of.Tie as tie
 
 abbrev Inv-loop : tie.InvT-loop
-Inv-loop image n m records at₀ begins₀ s₀ at begins s = Begun image n at begins s
+Inv-loop image n m records at₀ begins₀ s₀ at begins s = Begun (λ q. entryAt image q 0) 513 (length image) n at begins s
 
 abbrev μ-loop : tie.MeasureT-loop
 μ-loop image n m records at₀ begins₀ s₀ at begins s = n - s
@@ -22,7 +24,7 @@ sized c = let t = c .before .before in sizes (t .args .image .now) (t .pre .0) (
 turned : (c : tie.After-get16 Inv-loop μ-loop)
     → let l = c .before .before in
     let t = l .before .before .before .args in
-    Begun (t .image .now) (t .n) (l .loop .at + 4 * c .get16 .result) (set (l .loop .begins) (l .loop .s) (l .loop .at)) (l .loop .s + 1)
+    Begun (λ q. entryAt (t .image .now) q 0) 513 (length (t .image .now)) (t .n) (l .loop .at + 4 * c .get16 .result) (set (l .loop .begins) (l .loop .s) (l .loop .at)) (l .loop .s + 1)
 turned c =
     let l = c .before .before in
     let r = l .before in

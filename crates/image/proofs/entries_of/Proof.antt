@@ -1,5 +1,6 @@
 -- The part between two places of the list of begins is the state's.
-use Rattle.image.proofs.Parts.{Between, part-between, between}
+use Rattle.image.proofs.Places.{Between}
+use Rattle.image.proofs.Parts.{part-between, between}
 use borrow.Author.Needs.{needs}
 use Rattle.image.proofs.entries_of.Statement.{statement}
 use Rattle.image.proofs.entries_of.Tie as tie

@@ -1,22 +1,27 @@
 -- The loop's invariant: the look-up has come to s after the hops counted. The measure is the steps that are left of the chain.
+use mathlib.Core.Path.{_≡_}
 use mathlib.Core.Logic.{inl, inr, ⊎-elim}
 use Prim.Native.Nat.{_+_, _*_, _≤_}
 use native.Mathlib.Omega.{arith}
 use lib.ListN.{length}
 use borrow.Author.Needs.{needs}
-use Rattle.image.proofs.Accepted.{accepted-laid, part-row, record-in}
+use Rattle.paper.specs.View.{stored}
+use Rattle.paper.specs.Image.{imageView}
+use Rattle.image.specs.Forms.{stepOf}
+use Rattle.image.proofs.Cases.{record-default}
+use Rattle.image.proofs.Accepted.{accepted-laid, part-row, record-in, step-of-part}
 use Rattle.image.proofs.Way.{Way, Onward, stepsLeft, way-start, way-answered, way-sent}
 use Rattle.image.proofs.look_up.Statement.{statement}
 use Rattle.image.proofs.look_up.Tie as tie
 
 abbrev Inv-loop : tie.InvT-loop
-Inv-loop image begins records k state class s₀ hops₀ s hops = Way image state class s hops
+Inv-loop image begins records k state class s₀ hops₀ s hops = Way (imageView image) state class s hops
 
 abbrev μ-loop : tie.MeasureT-loop
-μ-loop image begins records k state class s₀ hops₀ s hops = stepsLeft image s
+μ-loop image begins records k state class s₀ hops₀ s hops = stepsLeft (imageView image) s
 
 loop-holds : tie.Need-loop-holds Inv-loop μ-loop
-loop-holds c = let t = c .before in way-start (t .args .image .now) (t .pre .0 .accepted) (t .args .state) (t .args .class) (t .pre .1) (t .pre .2)
+loop-holds c = let t = c .before in let A = t .pre .0 .accepted in way-start (imageView (t .args .image .now)) (A .right) (A .few-states) (t .args .state) (t .args .class) (t .pre .1) (t .pre .2)
 
 cast-entries-of : tie.Need-cast-entries-of Inv-loop μ-loop
 cast-entries-of c = search needs
@@ -35,13 +40,24 @@ stored-in-requires c κs =
 enum-known-t : tie.Need-enum-known-t Inv-loop μ-loop
 enum-known-t c = search needs
 
+-- The step over the part is the state's.
+step-here : (c : tie.After-stored-in Inv-loop μ-loop)
+    → let l = c .before .before in
+    let t = l .before .before in
+    c .stored-in .result ≡ stepOf (stored (imageView (t .args .image .now)) (l .loop .s) (t .args .class))
+step-here c =
+    let l = c .before .before in
+    let t = l .before .before in
+    step-of-part (t .args .image .now) (t .pre .0 .accepted) (l .loop .s) (l .loop .inv .inside) (t .args .class) (c .before .entries-of .result .now) (c .stored-in .result) (c .before .entries-of .ensures) (c .stored-in .ensures)
+
 returns : tie.Need-returns Inv-loop μ-loop
 returns c =
     let step = c .before .before .before in
     let l = step .before .before in
     let t = l .before .before in
-    way-answered (t .args .image .now) (t .pre .0 .accepted) (t .args .state) (t .args .class) (t .pre .1) (t .pre .2) (l .loop .s) (l .loop .hops) (l .loop .inv)
-    (step .before .entries-of .result .now) (step .stored-in .result) (step .before .entries-of .ensures) (step .stored-in .ensures) _ (c .before .t .given .1)
+    let A = t .pre .0 .accepted in
+    way-answered (imageView (t .args .image .now)) (A .right) (A .few-states) (t .args .state) (t .args .class) (t .pre .1) (t .pre .2) (l .loop .s) (l .loop .hops) (l .loop .inv)
+    (step .stored-in .result) (step-here step) _ (c .before .t .given .1)
 
 enum-told : tie.Need-enum-told Inv-loop μ-loop
 enum-told c = search needs
@@ -74,15 +90,17 @@ head c = c .before .before .before .before .before .before
 
 -- Where nothing is stored the way goes on to where the record falls.
 onward : (c : tie.At-match2-came Inv-loop μ-loop)
-    → Onward (head c .before .before .args .image .now) (head c .before .before .args .state) (head c .before .before .args .class) (head c .loop .s) (head c .loop .hops) (c .match2 .s)
+    → Onward (imageView (head c .before .before .args .image .now)) (head c .before .before .args .state) (head c .before .before .args .class) (head c .loop .s) (head c .loop .hops) (c .match2 .s)
 onward c =
     let read = c .before in
     let step = read .before .before .before in
     let l = head c in
     let t = l .before .before in
-    way-sent (t .args .image .now) (t .pre .0 .accepted) (t .args .state) (t .args .class) (t .pre .1) (t .pre .2) (l .loop .s) (l .loop .hops) (l .loop .inv)
-    (step .before .entries-of .result .now) (step .stored-in .result) (step .before .entries-of .ensures) (step .stored-in .ensures) (read .before .enum-told .given .1)
-    (read .record-at .result) (rw (← (t .pre .0 .records-is)) (read .record-at .ensures)) (c .match2 .s)
+    let A = t .pre .0 .accepted in
+    let r = read .record-at .result in
+    way-sent (imageView (t .args .image .now)) (A .right) (A .few-states) (t .args .state) (t .args .class) (t .pre .1) (t .pre .2) (l .loop .s) (l .loop .hops) (l .loop .inv)
+    (step .stored-in .result) (step-here step) (read .before .enum-told .given .1)
+    (r .fallback) (record-default (t .args .image .now) (l .loop .s) r (rw (← (t .pre .0 .records-is)) (read .record-at .ensures))) (c .match2 .s)
     (⊎-elim (λ w. inl (rw (w .3) (w .1 .given .1))) (λ w. inr (w .1 .given .1)) (c .match2 .came))
 
 add-hops : tie.Need-add-hops Inv-loop μ-loop

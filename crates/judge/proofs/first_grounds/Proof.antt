@@ -57,7 +57,7 @@ returns-4 : tie.Need-returns-4
 returns-4 c = applies (pastCounts (c .before .before)) (sym (c .before .length-bad .ensures) ∙ c .if4 .taken)
 
 trailer-bad-requires : tie.Need-trailer-bad-requires
-trailer-bad-requires c κs = let C = counted c in (omega (arith, C .long), C .few-entries)
+trailer-bad-requires c κs = let C = counted c in (omega (arith, C .long), omega (arith, C .few-entries))
 
 returns-5 : tie.Need-returns-5
 returns-5 c = applies (past₃ (c .before .before)) (sym (c .before .trailer-bad .ensures) ∙ c .if5 .taken)

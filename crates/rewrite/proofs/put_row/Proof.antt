@@ -6,7 +6,7 @@ use native.Mathlib.Omega.{arith}
 use borrow.Author.Needs.{needs}
 use lib.ListN.{length}
 use Rattle.words.specs.Placed.{placed}
-use Rattle.image.proofs.Parts.{Between}
+use Rattle.image.proofs.Places.{Between}
 use Rattle.rewrite.proofs.Entries.{row-between, row-copied, row-root}
 use Rattle.rewrite.proofs.put_row.Statement.{statement}
 use Rattle.rewrite.proofs.put_row.Tie as tie

@@ -60,7 +60,7 @@ stays c =
     let d = counted c in
     let s = begun d in
     stays-are (bytes d) (readable d) (s .pre .0) (s .args .n) (s .args .k) (s .pre .1) (s .pre .2) (d .counts-of .result) (d .before .defaults-of .result) (c .stay-of .result)
-    (d .counts-of .ensures) (d .before .defaults-of .ensures) (c .stay-of .ensures)
+    (d .counts-of .ensures) (d .before .defaults-of .ensures .0) (c .stay-of .ensures)
 
 counts-after-requires : tie.Need-counts-after-requires
 counts-after-requires c κs = let d = counted (c .before .before) in (few d, omega (arith, begun d .pre .2, begun d .pre .0 .few-classes))
@@ -194,7 +194,7 @@ emit-requires c κs =
     let d = counted stay in
     let M = measured (whole .before) in
     let O = list-ordered (M .accepted) (M .states-are) (M .classes-are) (M .range) (order .order-of .ensures .1 (ends order)) in
-    (setting records, d .before .defaults-of .ensures, M, O .1, worst .worst-of .ensures, omega (arith, passed .if1 .left, whole .image-length .ensures))
+    (setting records, d .before .defaults-of .ensures .0, M, O .1, worst .worst-of .ensures, omega (arith, passed .if1 .left, whole .image-length .ensures))
 
 same-length : tie.Need-same-length
 same-length c = c .before .room .given

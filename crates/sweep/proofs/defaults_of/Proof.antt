@@ -73,7 +73,7 @@ returns c =
     let t = c .before .before .before in
     let l = c .before .loop in
     let e : l .s ≡ t .args .n = omega arith in
-    filled-falls (t .pre) (l .def) (rw e at (l .inv .1 .filled))
+    (filled-falls (t .pre) (l .def) (rw e at (l .inv .1 .filled)), l .inv .1 .long)
 
 pub defaults-of-spec : {M : Type 1} → statement M
 defaults-of-spec =

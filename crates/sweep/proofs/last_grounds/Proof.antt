@@ -1,14 +1,17 @@
 -- Each way out is the first of the last three grounds that applies: what is ordered and swept decides them.
 use denote.Ref.{now}
-use mathlib.Core.Path.{_≡_, refl, sym, _∙_}
+use mathlib.Core.Path.{_≡_, refl, sym, ap, _∙_}
 use mathlib.Core.Bool.{false}
 use mathlib.Core.List.{List}
 use Prim.Native.Nat.{ℕ}
 use native.Mathlib.Omega.{arith}
 use Rattle.paper.specs.View.{anyEntry, sameAsDefault}
-use Rattle.paper.specs.Image.{imageView}
+use Rattle.paper.specs.Refusals.{first}
+use Rattle.paper.specs.Image.{entries, depth, worst, classOf, imageView}
+use Rattle.image.specs.Grounds.{laterGrounds}
 use Rattle.image.proofs.Passed.{passed-for}
-use Rattle.sweep.proofs.Verdict.{eleven, twelve, other-depth, other-worst, none-left}
+use Rattle.sweep.proofs.Imaged.{later-last}
+use Rattle.sweep.proofs.Verdict.{lastOf, eleven, twelve, other-depth, other-worst, none-left}
 use Rattle.sweep.proofs.last_grounds.Statement.{statement}
 use Rattle.sweep.proofs.last_grounds.Tie as tie
 
@@ -20,11 +23,15 @@ bytes c = now (c .before .before .args .image)
 abbrev ordering : tie.Else2 → tie.Else1
 ordering c = c .before .before .before .before
 
+-- The last grounds of an image are those of its view.
+image-last : (b : List ℕ) (r : ℕ) → r ≡ lastOf (imageView b) (classOf b) (entries b) (depth b) (worst b) → r ≡ first (laterGrounds b)
+image-last b r e = e ∙ ap first (later-last b)
+
 ordered-requires : tie.Need-ordered-requires
 ordered-requires c κs = let P = c .before .pre in passed-for (P .classes-are) refl P
 
 returns : tie.Need-returns
-returns c = eleven (bytes (c .before)) (c .before .ordered .ensures .0 ∙ c .if1 .taken)
+returns c = image-last (bytes (c .before)) 11 (eleven _ _ _ _ _ (c .before .ordered .ensures .0 ∙ c .if1 .taken))
 
 sweep-requires : tie.Need-sweep-requires
 sweep-requires c κs = let ended = c .before .before in (ended .before .before .before .pre, ended .before .ordered .ensures .1 (ended .if1 .left) .1)
@@ -33,7 +40,7 @@ returns-2 : tie.Need-returns-2
 returns-2 c =
     let ended = c .before .before .before .before in
     let found = ended .before .ordered .ensures in
-    twelve (bytes (ended .before)) (found .0 ∙ ended .if1 .left) (sym (c .before .sweep .ensures .0) ∙ c .if2 .taken)
+    image-last (bytes (ended .before)) 12 (twelve _ _ _ _ _ (found .0 ∙ ended .if1 .left) (sym (c .before .sweep .ensures .0) ∙ c .if2 .taken))
 
 -- Where the sweep found nothing, every entry of the image is needed.
 needed : (c : tie.Else2) → let b = bytes (ordering c .before) in anyEntry (imageView b) (sameAsDefault (imageView b)) ≡ false
@@ -47,7 +54,7 @@ returns-3 c =
     let swept = c .before .before in
     let ended = ordering swept in
     let found = ended .before .ordered .ensures in
-    other-depth (bytes (ended .before)) (found .0 ∙ ended .if1 .left) (needed swept) (λ e. c .if3 .taken (c .before .get16 .ensures ∙ e ∙ found .1 (ended .if1 .left) .0))
+    image-last (bytes (ended .before)) 13 (other-depth _ _ _ _ _ (found .0 ∙ ended .if1 .left) (needed swept) (λ e. c .if3 .taken (c .before .get16 .ensures ∙ e ∙ found .1 (ended .if1 .left) .0)))
 
 sub-get16 : tie.Need-sub-get16
 sub-get16 c = omega (arith, ordering (c .before .before) .before .before .before .pre .laid .long)
@@ -61,7 +68,7 @@ returns-4 c =
     let ended = ordering swept in
     let found = ended .before .ordered .ensures in
     let far = swept .before .sweep .ensures .1 (swept .if2 .left) in
-    other-worst (bytes (ended .before)) (found .0 ∙ ended .if1 .left) (needed swept) (λ e. c .if4 .taken (c .before .get162 .ensures ∙ e ∙ sym far))
+    image-last (bytes (ended .before)) 13 (other-worst _ _ _ _ _ (found .0 ∙ ended .if1 .left) (needed swept) (λ e. c .if4 .taken (c .before .get162 .ensures ∙ e ∙ sym far)))
 
 returns-5 : tie.Need-returns-5
 returns-5 c =
@@ -69,8 +76,8 @@ returns-5 c =
     let ended = ordering swept in
     let found = ended .before .ordered .ensures in
     let far = swept .before .sweep .ensures .1 (swept .if2 .left) in
-    none-left (bytes (ended .before)) (found .0 ∙ ended .if1 .left) (needed swept)
-    (sym (c .before .before .before .get16 .ensures) ∙ c .before .before .if3 .left ∙ sym (found .1 (ended .if1 .left) .0)) (sym (c .before .get162 .ensures) ∙ c .if4 .left ∙ far)
+    image-last (bytes (ended .before)) 0 (none-left _ _ _ _ _ (found .0 ∙ ended .if1 .left) (needed swept)
+    (sym (c .before .before .before .get16 .ensures) ∙ c .before .before .if3 .left ∙ sym (found .1 (ended .if1 .left) .0)) (sym (c .before .get162 .ensures) ∙ c .if4 .left ∙ far))
 
 pub last-grounds-spec : {M : Type 1} → statement M
 last-grounds-spec =

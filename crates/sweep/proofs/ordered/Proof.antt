@@ -1,7 +1,6 @@
 -- The defaults are listed, and the order that is found for the list is one for the image.
-use mathlib.Core.Path.{refl, sym}
-use Rattle.image.proofs.Passed.{passed-for}
-use Rattle.sweep.proofs.Sweeping.{defaults-range, view-ordered}
+use Rattle.chains.proofs.Agrees.{inside-range}
+use Rattle.sweep.proofs.Sweeping.{view-ordered}
 use Rattle.sweep.proofs.Verdict.{endless-is, depth-is}
 use Rattle.sweep.proofs.ordered.Statement.{statement}
 use Rattle.sweep.proofs.ordered.Tie as tie
@@ -10,17 +9,17 @@ defaults-of-requires : tie.Need-defaults-of-requires
 defaults-of-requires c κs = c .before .pre
 
 order-of-requires : tie.Need-order-of-requires
-order-of-requires c κs = let P = c .before .before .before .pre in (P .few-states, defaults-range P (c .before .defaults-of .ensures))
+order-of-requires c κs = let P = c .before .before .before .pre in (P .few-states, inside-range (c .before .defaults-of .ensures .0) (P .inside))
 
 returns : tie.Need-returns
 returns c =
     let listed = c .before .before in
-    let P = listed .before .before .pre in
-    let F = listed .defaults-of .ensures in
+    let inside = listed .before .before .pre .inside in
+    let F = listed .defaults-of .ensures .0 in
     let r = c .order-of .result in
     let (e, o) = c .order-of .ensures in (
-      endless-is P F (r .endless) e,
-      λ ends. let (d, O) = o ends in (depth-is P F (r .depth) d, view-ordered P F O),
+      endless-is inside F (r .endless) e,
+      λ ends. let (d, O) = o ends in (depth-is inside F (r .depth) d, view-ordered F O),
     )
 
 pub ordered-spec : {M : Type 1} → statement M

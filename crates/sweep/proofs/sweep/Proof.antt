@@ -1,20 +1,22 @@
 -- The loop's invariant: none of the classes so far is needless anywhere, and `most` is 1024 more than the largest hops of them.
 use mathlib.Core.Path.{_≡_, refl, sym, _∙_}
 use mathlib.Core.Bool.{true≢false}
-use Prim.Native.Nat.{_-_, _+_, _≤_, _<_}
+use mathlib.Core.List.{List}
+use Prim.Native.Nat.{ℕ, _-_, _+_, _≤_, _<_}
 use native.Mathlib.Omega.{arith}
 use lib.ListN.{getD-replicate}
 use borrow.Author.Needs.{needs}
 use Rattle.paper.specs.Image.{imageView}
 use Rattle.image.proofs.Passed.{passed-for}
-use Rattle.abreast.specs.Keeps.{Above}
-use Rattle.sweep.proofs.Sweeping.{Sweeping, fits, sweeping-start, sweeping-more, sweeping-done}
+use Rattle.abreast.specs.Keeps.{Above, inOne}
+use Rattle.sweep.proofs.Sweeping.{Sweeping, sweeping-start, sweeping-more, sweeping-done}
+use Rattle.sweep.proofs.Imaged.{fits, bytes-classed}
 use Rattle.sweep.proofs.sweep.Statement.{statement}
 use Rattle.sweep.proofs.sweep.Tie as tie
 
 abbrev Inv-loop : tie.InvT-loop
 Inv-loop image n k m order up place₀ left₀ wait₀ to₀ hop₀ most₀ first₀ place left wait to hop most first =
-    Above (imageView image) n up × Sweeping image n first place left wait to hop most
+    Above (imageView image) n up × Sweeping (imageView image) (inOne image) n first place left wait to hop most
 
 abbrev μ-loop : tie.MeasureT-loop
 μ-loop image n k m order up place₀ left₀ wait₀ to₀ hop₀ most₀ first₀ place left wait to hop most first = k - first
@@ -22,6 +24,10 @@ abbrev μ-loop : tie.MeasureT-loop
 -- The call, from the place where the rows are opened.
 abbrev start : tie.After-open-rows Inv-loop μ-loop → tie.Start Inv-loop μ-loop
 start c = c .before .before .before .before .before .before
+
+-- The bytes of each state are the image's.
+abbrev bytes : tie.Start Inv-loop μ-loop → ℕ → List ℕ
+bytes t = inOne (t .args .image .now)
 
 open-rows-requires : tie.Need-open-rows-requires Inv-loop μ-loop
 open-rows-requires c κs = let P = c .before .before .before .before .before .pre .0 in (passed-for (P .classes-are) refl P, refl, refl, refl, refl)
@@ -31,7 +37,7 @@ loop-holds c =
     let P = start c .pre .0 in
     let O = c .open-rows .ensures in (
       O .above,
-      sweeping-start P (record { place-long = O .place-long; left-long = O .left-long; wait-long = O .wait-long; to-long = refl; hop-long = refl })
+      sweeping-start (bytes (start c)) (fits P) (record { place-long = O .place-long; left-long = O .left-long; wait-long = O .wait-long; to-long = refl; hop-long = refl })
           (λ q h. (getD-replicate 1026 (1024 + q) 65535 0 (omega arith), getD-replicate 1026 (1024 + q) 0 0 (omega arith))) (O .stands),
     )
 
@@ -73,7 +79,7 @@ loop-again c =
     let l = e .before in
     let P = start (l .before) .pre .0 in
     let passed = c .before .before .before in
-    (l .loop .inv .0, sweeping-more P (l .loop .inv .1) (e .loop-test .taken) (passed .two-classes .ensures .2 (c .before .before .if1 .left)) (c .largest .result) (c .largest .ensures) (search needs))
+    (l .loop .inv .0, sweeping-more (bytes (start (l .before))) (fits P) (l .loop .inv .1) (omega (arith, e .loop-test .taken, P .classes-are)) (passed .two-classes .ensures .2 (c .before .before .if1 .left)) (c .largest .result) (c .largest .ensures) (search needs))
 
 sub-worst : tie.Need-sub-worst Inv-loop μ-loop
 sub-worst c = c .before .loop .inv .1 .far .least
@@ -81,7 +87,8 @@ sub-worst c = c .before .loop .inv .1 .far .least
 returns-2 : tie.Need-returns-2 Inv-loop μ-loop
 returns-2 c =
     let l = c .before in
-    let (none, far) = sweeping-done (start (l .before) .pre .0) (l .loop .inv .1) (c .loop-test .left) in
+    let P = start (l .before) .pre .0 in
+    let (none, far) = sweeping-done (bytes (start (l .before))) (fits P) (l .loop .inv .1) (omega (arith, c .loop-test .left, P .classes-are)) _ (bytes-classed P) in
     (none, λ _. omega (arith, far))
 
 pub sweep-spec : {M : Type 1} → statement M

@@ -26,7 +26,7 @@ returns c =
     let b = now (s .args .image) in
     c .some-share-few .ensures
     ∙ weak-by-counts b (fits-bytes b (known .shared-slice-known .given)) (s .pre .0) (s .args .n) (s .args .k) (s .pre .1) (s .pre .2) (counted .counts-of .result) (listed .defaults-of .result)
-    (counted .counts-of .ensures) (listed .defaults-of .ensures)
+    (counted .counts-of .ensures) (listed .defaults-of .ensures .0)
 
 pub some-not-worth-spec : {M : Type 1} → statement M
 some-not-worth-spec = tie.close (tie.spec defaults-of-requires counts-of-requires some-share-few-requires returns)

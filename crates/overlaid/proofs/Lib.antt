@@ -1,0 +1,4 @@
+pub mod Laid
+pub mod Defaults
+pub mod Choosing
+pub mod Rows
