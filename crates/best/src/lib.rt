@@ -1,41 +1,10 @@
-// Whether a pair can be added, the next pair of one weight in a row, and the best pair of one weight that can, in an order that goes by the distances of the moment.
+// The best pair of one weight that can be added, in an order that goes by the distances of the moment.
 ghost use mathlib.Core.Path.{_≡_};
 ghost use Prim.Native.Nat.{_≤_, _<_};
-ghost use Rattle.weights.specs.Weighed.{weightIn};
-ghost use Rattle.best.specs.Taken.{isTaken};
-ghost use Rattle.weights.specs.Next.{Next};
-ghost use Rattle.best.specs.Keys.{keyOf, keyIn, fitsIn};
+ghost use Rattle.pairs.specs.Keys.{keyIn, fitsIn};
 ghost use Rattle.best.specs.Longs.{ByTree, LongestIn};
 ghost use Rattle.best.specs.Picked.{InRow, Picked};
 ghost use Rattle.best.specs.Searched.{Searched, Relaxed};
-
-// Whether a pair of weight x is added among those of weight w: its ends lie in different trees, and the path over it is at most the bound.
-pub fn takes(x: u8, w: u8, tu: u16, tv: u16, du: u16, dv: u16, bound: u16) -> bool
-    ensures { λ r. ⌜ r ≡ isTaken x w tu tv du dv bound ⌝ }
-{
-    if x != w {
-        return false;
-    }
-    if tu == tv {
-        return false;
-    }
-    du as u32 + dv as u32 + 1 <= bound as u32
-}
-
-// The first state from `from` on whose pair with u has weight w, n where there is none.
-pub fn next_of(weights: &[u8; 262144], n: usize, u: usize, from: usize, w: u8) -> usize
-    requires { ⌜ (n ≤ 512) × (u < 512) × (from ≤ n) ⌝ }
-    ensures { λ r. ⌜ Next n (weightIn (now (weights .entry)) u) from w r ⌝ }
-{
-    let mut v = from;
-    while v < n {
-        if weights[u * 512 + v] == w {
-            return v;
-        }
-        v += 1;
-    }
-    v
-}
 
 // A pair and its key; a key of 65536 says that there is none.
 pub struct Pick {
@@ -48,24 +17,6 @@ pub struct Pick {
 pub struct Search {
     pub best: Pick,
     pub low: [u32; 512],
-}
-
-// The number by which the order goes among pairs of equal weight: order 1 by the path over the pair, order 2 by what it has more than the longer of both trees' longest paths.
-fn key_of(order: u8, du: u16, dv: u16, lu: u16, lv: u16) -> u32
-    ensures { λ r. ⌜ r ≡ keyOf order du dv lu lv ⌝ }
-{
-    if order == 0 {
-        return 0;
-    }
-    let across = du as u32 + dv as u32 + 1;
-    if order == 1 {
-        return across;
-    }
-    let longest = words::larger(lu, lv) as u32;
-    if across < longest {
-        return 0;
-    }
-    across - longest
 }
 
 // The longest path of each tree, by the tree's number: the largest distance in it.
@@ -131,15 +82,15 @@ fn best_in_row(
     while v < n {
         if weights[u * 512 + v] == w {
             let dv = d[v];
-            if takes(w, w, tu, tree[v], du, dv, bound) {
-                let key = key_of(order, du, dv, lu, long[v]);
+            if pairs::takes(w, w, tu, tree[v], du, dv, bound) {
+                let key = pairs::key_of(order, du, dv, lu, long[v]);
                 if key < best.key {
                     best = Pick { key, u, v };
                 }
             }
             v += 1;
         } else {
-            v = next_of(weights, n, u, v + 1, w);
+            v = pairs::next_of(weights, n, u, v + 1, w);
         }
     }
     best

@@ -17,12 +17,12 @@ use Rattle.paper.specs.Operations.{filled}
 use Rattle.paper.proofs.Labels.{labels-named, behind-same}
 use Rattle.paper.proofs.LabelsMoved.{Copied, labels-moved}
 use Rattle.trips.proofs.TableBytes.{TableReads, table-back}
-use Rattle.expand.specs.Kept.{Kept}
-use Rattle.expand.specs.Front.{rowsAt, Fronted}
-use Rattle.expand.specs.Rows.{rowAt, RowStands}
-use Rattle.expand.proofs.Placing.{number-same}
-use Rattle.expand.proofs.Kept.{kept-then, number-before}
-use Rattle.expand.proofs.Rows.{row-ends}
+use Rattle.spread.specs.Kept.{Kept}
+use Rattle.spread.specs.Front.{rowsAt, Fronted}
+use Rattle.spread.specs.Rows.{rowAt, RowStands}
+use Rattle.spread.proofs.Placing.{number-same}
+use Rattle.spread.proofs.Kept.{kept-then, number-before}
+use Rattle.spread.proofs.Rows.{row-ends}
 
 -- Behind a stretch the room is as it was.
 drop-kept : {old room : List ℕ} {from to : ℕ} → Kept old room from to → drop to room ≡ drop to old

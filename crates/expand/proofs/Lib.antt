@@ -1,10 +1,3 @@
-pub mod Placing
-pub mod Kept
-pub mod Copying
-pub mod Overlay
-pub mod Front
 pub mod Accepted
-pub mod Rows
-pub mod Standing
 pub mod Filled
 pub mod Verdict

@@ -1,122 +1,14 @@
 // Expand: an image into the table that it stands for. The rows are set down in the room itself, that of each state after that of its default.
 ghost use mathlib.Core.Path.{_≡_};
-ghost use mathlib.Core.Option.{some};
-ghost use Prim.Native.Nat.{ℕ, _+_, _*_, _/_, _≤_, _<_};
-ghost use lib.ListN.{length, getD};
-ghost use Rattle.paper.specs.Image.{states, classes, defaultFrom};
+ghost use Prim.Native.Nat.{_≤_};
+ghost use lib.ListN.{length};
+ghost use Rattle.paper.specs.Image.{states, classes};
 ghost use Rattle.paper.specs.Results.{tableOf};
 ghost use Rattle.paper.specs.Operations.{filled};
 ghost use Rattle.paper.specs.Promises.{Expands};
 ghost use Rattle.facts.proofs.ImageFacts.{AcceptedImage};
-ghost use Rattle.image.specs.Laid.{Row};
-ghost use Rattle.chains.specs.Orders.{ParentFirst};
-ghost use Rattle.expand.specs.Kept.{Kept};
-ghost use Rattle.expand.specs.Rows.{rowAt, RowIn, Apart, RowCopied, Overlaid, Inherited, Setting, RowStands};
-ghost use Rattle.expand.specs.Front.{rowsAt, Fronted};
-
-// Sets down the first word, k and the start state, the classes, and the numbers of the labels, which end where the rows begin, as they stand in the image.
-fn put_front(image: &[u8], first: usize, room: &mut [u8])
-    requires { ⌜ (6 ≤ first) × (first + 6 ≤ length (now image)) × (first ≤ length (now room)) ⌝ }
-    ensures { λ _. ⌜ Fronted (now (image .entry)) first (now (room .entry)) (now (room .exit)) ⌝ }
-{
-    words::copy(image, 0, 6, room, 0);
-    words::copy(image, 12, first - 6, room, 6);
-}
-
-// Where the row of a state begins in a table whose rows begin at `first`; at n, where the table ends.
-fn row_at(first: usize, k: usize, s: usize) -> usize
-    requires { ⌜ (first ≤ 17670) × (k ≤ 256) × (s ≤ 512) ⌝ }
-    ensures { λ r. ⌜ r ≡ rowAt first k s ⌝ }
-{
-    first + 2 * (s * k)
-}
-
-// Copies the k numbers of the row at `from` to the row at `to`.
-fn copy_row(room: &mut [u8], from: usize, to: usize, k: usize)
-    requires { ⌜ (from + 2 * k ≤ length (now room)) × (to + 2 * k ≤ length (now room)) × Apart from to k ⌝ }
-    ensures { λ _. ⌜ RowCopied (now (room .entry)) (now (room .exit)) from to k ⌝ }
-{
-    let mut c = 0;
-    while c < k {
-        let x = words::get16(room, from + 2 * c);
-        words::put16(room, to + 2 * c, x);
-        c += 1;
-    }
-}
-
-// Puts the next state of each entry of a state into the row at `at`, in the place of its class.
-fn put_entries(part: &[u8], room: &mut [u8], at: usize, k: usize)
-    requires { ⌜ Row (now part) k × (at + 2 * k ≤ length (now room)) ⌝ }
-    ensures { λ _. ⌜ Overlaid (now (part .entry)) (now (room .entry)) (now (room .exit)) at k (length (now (part .entry)) / 4) ⌝ }
-{
-    let count = part.len() / 4;
-    let mut j = 0;
-    while j < count {
-        let class = words::get16(part, 4 * j) as usize;
-        let next = words::get16(part, 4 * j + 2);
-        words::put16(room, at + 2 * class, next);
-        j += 1;
-    }
-}
-
-// Copies the row of the default of a state, if it has one, to the row of the state.
-fn copy_default(def: &[u16; 512], first: usize, k: usize, s: usize, room: &mut [u8])
-    requires { ⌜ (first ≤ 17670) × (k ≤ 256) × RowIn first k (now room) s
-        × ((d : ℕ) → defaultFrom (getD (now def) s 0) ≡ some d → RowIn first k (now room) d × (¬ (d ≡ s))) ⌝ }
-    ensures { λ _. ⌜ Inherited (now (def .entry)) (now (room .entry)) (now (room .exit)) first k s ⌝ }
-{
-    let d = def[s];
-    if d == 65535 {
-        return;
-    }
-    let from = row_at(first, k, d as usize);
-    let to = row_at(first, k, s);
-    copy_row(room, from, to, k);
-}
-
-// Sets down the row of a state, where that of its default stands: the default's row, and the state's own entries over it.
-fn put_row(
-    image: &[u8],
-    first: usize,
-    k: usize,
-    begins: &[u32; 513],
-    def: &[u16; 512],
-    s: usize,
-    room: &mut [u8],
-)
-    requires { ⌜ Setting (now image) first k (now begins) (now def) (now room) × (s < states (now image))
-        × ((d : ℕ) → defaultFrom (getD (now def) s 0) ≡ some d → RowStands (now image) first k (now room) d) ⌝ }
-    ensures { λ _. ⌜ RowStands (now (image .entry)) first k (now (room .exit)) s × Kept (now (room .entry)) (now (room .exit)) (rowAt first k s) (rowAt first k s + 2 * k) ⌝ }
-{
-    copy_default(def, first, k, s, room);
-    put_entries(
-        image::entries_of(image, begins, s),
-        room,
-        row_at(first, k, s),
-        k,
-    );
-}
-
-// Sets down the rows of all states, each after that of its default.
-fn put_rows(
-    image: &[u8],
-    first: usize,
-    n: usize,
-    k: usize,
-    begins: &[u32; 513],
-    def: &[u16; 512],
-    order: &[u16; 512],
-    room: &mut [u8],
-)
-    requires { ⌜ Setting (now image) first k (now begins) (now def) (now room) × (n ≡ states (now image)) × ParentFirst n (now def) (now order) ⌝ }
-    ensures { λ _. ⌜ ((s : ℕ) → s < n → RowStands (now (image .entry)) first k (now (room .exit)) s)
-        × Kept (now (room .entry)) (now (room .exit)) first (rowAt first k n) ⌝ }
-{
-    for i in 0..n {
-        let s = order[i] as usize;
-        put_row(image, first, k, begins, def, s, room);
-    }
-}
+ghost use Rattle.spread.specs.Rows.{rowAt};
+ghost use Rattle.spread.specs.Front.{rowsAt};
 
 // Fills the first bytes of the room with the table of an accepted image.
 fn fill(image: &[u8], first: usize, n: usize, k: usize, room: &mut [u8])
@@ -127,8 +19,8 @@ fn fill(image: &[u8], first: usize, n: usize, k: usize, room: &mut [u8])
     let begins = image::begins_of(image, n, m);
     let def = sweep::defaults_of(image, n, m);
     let chains = chains::order_of(&def, n);
-    put_front(image, first, room);
-    put_rows(image, first, n, k, &begins, &def, &chains.order, room);
+    spread::put_front(image, first, room);
+    spread::put_rows(image, first, n, k, &begins, &def, &chains.order, room);
 }
 
 // Expand: image into table. Every row is copied once and every entry put once, so the steps are in proportion to n k + m.
@@ -143,7 +35,7 @@ pub fn expand(image: &[u8], room: &mut [u8]) -> answers::Built
     let n = labels::states_of(word);
     let k = words::get16(image, 2) as usize;
     let first = 262 + 2 * n + 2 * labels::behind(image, 268, n, word);
-    let length = row_at(first, k, n);
+    let length = spread::row_at(first, k, n);
     if room.len() < length {
         return answers::not_built(16);
     }

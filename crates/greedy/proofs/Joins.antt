@@ -14,9 +14,9 @@ use Rattle.trees.proofs.Viable.{viable-before, rest-grows}
 use Rattle.trees.proofs.Best.{levelOf, level-joins, level-ends}
 use Rattle.trees.proofs.TreeCount.{treeCount, treeCount-some, treeCount-joined}
 use Rattle.joining.specs.Held.{Joined, Whole}
-use Rattle.best.specs.Taken.{isTaken}
+use Rattle.pairs.specs.Taken.{isTaken}
 use Rattle.greedy.specs.Good.{Good, Becomes}
-use Rattle.best.specs.Keys.{keyIn}
+use Rattle.pairs.specs.Keys.{keyIn}
 use Rattle.best.specs.Longs.{LongestIn}
 use Rattle.best.specs.Picked.{Found}
 use Rattle.best.specs.Searched.{InRows, Searched, Relaxed}

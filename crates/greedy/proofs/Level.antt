@@ -9,13 +9,13 @@ use lib.ListN.{getD}
 use Rattle.paper.specs.Forest.{Trees, longest, rest}
 use Rattle.paper.proofs.Below.{largest-same}
 use Rattle.paper.specs.BestPair.{Weighs, Viable, Best, NoneViable}
-use Rattle.best.specs.Taken.{isTaken}
+use Rattle.pairs.specs.Taken.{isTaken}
 use Rattle.greedy.specs.Good.{Good}
-use Rattle.best.specs.Keys.{keyIn}
+use Rattle.pairs.specs.Keys.{keyIn}
 use Rattle.best.specs.Longs.{LongestIn}
 use Rattle.best.specs.Picked.{Found, Leads}
 use Rattle.best.specs.Searched.{InRows, Floors}
-use Rattle.best.proofs.Keys.{key-rest, fits-small}
+use Rattle.pairs.proofs.Keys.{key-rest, fits-small}
 use Rattle.greedy.proofs.Pair.{test-viable, viable-test}
 
 module _ (n order D : ℕ) (weight : ℕ → ℕ → ℕ) (w : ℕ) where

@@ -17,7 +17,7 @@ use Rattle.trees.proofs.Longest.{joinedLongest-bound}
 use Rattle.trees.proofs.Grown.{added-grown}
 use Rattle.paper.specs.BestPair.{Viable}
 use Rattle.joining.specs.Held.{Joined}
-use Rattle.best.specs.Taken.{isTaken}
+use Rattle.pairs.specs.Taken.{isTaken}
 use Rattle.greedy.specs.Good.{Good}
 
 -- Two numbers of which both or neither keep to D are tested alike.

@@ -14,8 +14,8 @@ use Rattle.paper.specs.Levels.{row, rows}
 use Rattle.paper.proofs.Levels.{level}
 use Rattle.trees.proofs.Best.{levelOf}
 use Rattle.joining.specs.Held.{Joined, Whole}
-use Rattle.best.specs.Taken.{isTaken}
-use Rattle.best.proofs.Taken.{taken-full}
+use Rattle.pairs.specs.Taken.{isTaken}
+use Rattle.pairs.proofs.Taken.{taken-full}
 use Rattle.greedy.specs.Good.{Good, Becomes}
 use Rattle.greedy.proofs.Becomes.{becomes-same, becomes-then}
 use Rattle.weights.proofs.Next.{Passed}

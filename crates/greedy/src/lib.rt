@@ -16,12 +16,12 @@ fn take_level(f0: Forest, weights: &[u8; 262144], n: usize, bound: u16, w: u8) -
     let mut f = f0;
     for u in 0..n {
         if f.d[u] < bound {
-            let mut v = best::next_of(weights, n, u, u + 1, w);
+            let mut v = pairs::next_of(weights, n, u, u + 1, w);
             while v < n {
-                if best::takes(w, w, f.tree[u], f.tree[v], f.d[u], f.d[v], bound) {
+                if pairs::takes(w, w, f.tree[u], f.tree[v], f.d[u], f.d[v], bound) {
                     f = joining::join(f, n, u, v);
                 }
-                v = best::next_of(weights, n, u, v + 1, w);
+                v = pairs::next_of(weights, n, u, v + 1, w);
             }
         }
     }

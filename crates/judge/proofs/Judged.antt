@@ -18,7 +18,7 @@ use Rattle.paper.proofs.Tests.{holds-differ, or-both, not-differ}
 use Rattle.facts.proofs.LabelFacts.{behind-bound}
 use Rattle.table.proofs.Decided.{Decided, passed, applies}
 use Rattle.image.specs.Laid.{Laid}
-use Rattle.judge.specs.Counted.{Counted}
+use Rattle.contents.specs.Counted.{Counted}
 use Rattle.image.specs.Grounds.{firstGrounds}
 
 -- Ground 10.

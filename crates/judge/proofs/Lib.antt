@@ -1,4 +1,1 @@
-pub mod Records
-pub mod Rows
-pub mod Entries
 pub mod Judged

@@ -11,9 +11,6 @@ ghost use Rattle.paper.specs.Image.{distanceBack, wholeLength, check, imageLeng
 ghost use Rattle.paper.specs.Promises.{JudgesImage};
 ghost use Rattle.image.specs.Grounds.{firstGrounds};
 
-pub mod in_entries;
-pub mod in_records;
-
 // Ground 2: n, k or m is out of range. All three are compared before anything is made of m.
 fn counts_bad(n: usize, k: usize, m: usize) -> bool
     ensures { λ r. ⌜ r ≡ (outside 1 512 n || (outside 1 256 k || outside k (n * k) m)) ⌝ }
@@ -95,14 +92,14 @@ pub fn first_grounds(b: &[u8]) -> u32
     if labels::labels_bad(b, 268, n, word) {
         return 19;
     }
-    if in_records::records_bad(b, n, k, m) {
+    if contents::in_records::records_bad(b, n, k, m) {
         return 8;
     }
     let begins = image::begins_of(b, n, m);
-    if in_entries::entry_classes_bad(b, &begins, n, k) {
+    if contents::in_entries::entry_classes_bad(b, &begins, n, k) {
         return 9;
     }
-    if in_entries::next_bad(b, n, m) {
+    if contents::in_entries::next_bad(b, n, m) {
         return 10;
     }
     0

@@ -18,7 +18,7 @@ use Rattle.paper.proofs.Tests.{or-both, or-neither, not-differ, same-differ}
 use Rattle.facts.proofs.EntryFacts.{entered}
 use Rattle.facts.proofs.ImageFacts.{AcceptedImage}
 use Rattle.image.specs.Forms.{defaultOf, fallbackFrom, recordAt}
-use Rattle.judge.specs.Tests.{recordWrong}
+use Rattle.contents.specs.Tests.{recordWrong}
 use Rattle.patch.specs.Shaped.{Shaped, Counts}
 use Rattle.patch.specs.Listed.{Listed}
 use Rattle.patch.specs.Overlay.{Overlay}

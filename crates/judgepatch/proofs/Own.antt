@@ -22,7 +22,7 @@ use Rattle.facts.proofs.PatchFacts.{count-listed}
 use Rattle.facts.proofs.Listed.{listed-there, any-listed}
 use Rattle.image.specs.Forms.{recordAt}
 use Rattle.image.proofs.Cases.{default-from}
-use Rattle.judge.specs.Tests.{recordWrong, classWrong}
+use Rattle.contents.specs.Tests.{recordWrong, classWrong}
 use Rattle.patch.proofs.Parts.{part-class, part-next}
 
 -- The tests of the patch's own records and entries, for n states, k classes and p listed states.

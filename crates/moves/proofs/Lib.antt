@@ -1,4 +1,3 @@
-pub mod Across
 pub mod Filled
 pub mod Verdict
 pub mod Left

@@ -18,7 +18,7 @@ use Rattle.facts.proofs.ImageFacts.{AcceptedImage}
 use Rattle.trips.proofs.Moved.{length-moved}
 use Rattle.trips.proofs.Moves.{forwardOwn, backOwn}
 use Rattle.trips.proofs.Verdict.{image-refuses, own-refuses, none-refuses}
-use Rattle.moves.proofs.Across.{many-counted}
+use Rattle.relabel.proofs.Across.{many-counted}
 
 module _ (b room : List ℕ) where
   -- A ground of the image is forward's.

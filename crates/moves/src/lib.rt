@@ -12,8 +12,6 @@ ghost use Rattle.words.specs.Placed.{placed};
 ghost use Rattle.moves.specs.Pieces.{head, finished};
 use answers::Built;
 
-mod lists;
-
 // Puts the first word, and copies what stands between it and the labels.
 fn put_head(image: &[u8], word: u16, room: &mut [u8])
     requires { ⌜ (268 ≤ length (now image)) × (268 ≤ length (now room)) ⌝ }
@@ -46,7 +44,7 @@ fn fill_forward(image: &[u8], n: usize, m: u32, held: usize, room: &mut [u8])
     ensures { λ _. ⌜ now (room .exit) ≡ filled (moved two (now (image .entry))) (now (room .entry)) ⌝ }
 {
     put_head(image, 32768 + n as u16, room);
-    lists::put_lists(image, n, room);
+    relabel::put_lists(image, n, room);
     put_rest(image, n, m, 268 + 2 * n, held, room);
 }
 
@@ -57,7 +55,7 @@ fn fill_back(image: &[u8], n: usize, m: u32, held: usize, room: &mut [u8])
     ensures { λ _. ⌜ now (room .exit) ≡ filled (moved one (now (image .entry))) (now (room .entry)) ⌝ }
 {
     put_head(image, n as u16, room);
-    lists::put_numbers(image, n, room);
+    relabel::put_numbers(image, n, room);
     put_rest(image, n, m, 268 + 2 * n + 2 * held, 0, room);
 }
 
@@ -75,7 +73,7 @@ pub fn forward(image: &[u8], room: &mut [u8]) -> Built
     }
     let n = labels::states_of(word);
     let m = words::get32(image, 8);
-    let held = lists::held_of(image, n);
+    let held = relabel::held_of(image, n);
     let whole = ending::image_length(n, m, held);
     if room.len() < whole as usize {
         return answers::not_built(16);

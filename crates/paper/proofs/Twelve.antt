@@ -38,4 +38,4 @@ pub twelve-compacts : same (checked (compact twelve 0 1 (room 480)))
     && same (checked (compact twelve 0 3 (room 408)))
     (63866 ∷ 0 ∷ 408 ∷ 14 ∷ 2 ∷ 2 ∷ 1 ∷ 65535 ∷ 1 ∷ 7 ∷ 1 ∷ 1 ∷ 1 ∷ 1 ∷ 1 ∷ 1 ∷ 1 ∷ 1 ∷ []) ≡ true
 unfolding number16 number32 bytes16 bytes32 _⊕_ checkWord labelCount label labelsFrom labelsBehind labels next tableGrounds stored depthOf worstOf viewGrounds image.labels image.default image.count image.entryAt imageGrounds labelBytes labelsHeld recordBytes entryBytes front trailer parts imageOfView entriesOf imageOf tableOf weight singles endNear joined d longest joinedLongest addedOrDropped pairs neighbours isRoot root pointsTo forest towardRoot levels towardStart defaults compacted compactGrounds compact
-twelve-compacts = refl
+twelve-compacts = refl {a = true}

@@ -6,7 +6,7 @@ ghost use lib.ListN.{length};
 ghost use Rattle.paper.specs.Below.{any};
 ghost use Rattle.paper.specs.Words.{number16};
 ghost use Rattle.paper.specs.Patch.{count, entriesPart};
-ghost use Rattle.judge.specs.Tests.{classWrong};
+ghost use Rattle.contents.specs.Tests.{classWrong};
 ghost use Rattle.patch.specs.Shaped.{Counts, PatchBegins};
 
 // Ground 10 in the entries of one state: some next state is not below n.
@@ -31,7 +31,7 @@ pub fn entry_classes_bad(x: &[u8], begins: &[u32; 65], p: usize, q: usize, k: us
 {
     let mut i = 0;
     while i < p {
-        if judge::in_entries::row_bad(super::entries_of(x, begins, p, q, i), k) {
+        if contents::in_entries::row_bad(super::entries_of(x, begins, p, q, i), k) {
             return true;
         }
         i += 1;

@@ -5,7 +5,7 @@ ghost use Prim.Native.Nat.{_+_, _*_};
 ghost use Rattle.paper.specs.Below.{any, sum, differ};
 ghost use Rattle.paper.specs.Patch.{recordsAt, count};
 ghost use Rattle.image.specs.Forms.{recordAt};
-ghost use Rattle.judge.specs.Tests.{recordWrong};
+ghost use Rattle.contents.specs.Tests.{recordWrong};
 ghost use Rattle.patch.specs.Shaped.{Shaped};
 
 // Ground 8, first half: some record is wrong.
@@ -16,7 +16,7 @@ fn some_record_bad(x: &[u8], p: usize, q: usize, n: usize, k: usize) -> bool
     let records = super::records_at(x, p, q);
     let mut i = 0;
     while i < p {
-        if judge::in_records::record_bad(image::record_at(x, records + 4 * i), n, k) {
+        if contents::in_records::record_bad(image::record_at(x, records + 4 * i), n, k) {
             return true;
         }
         i += 1;

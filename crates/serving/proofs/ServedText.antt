@@ -12,9 +12,9 @@ use Rattle.paper.specs.Text.{refusedLine, tooLongLine, linesOr}
 use Rattle.paper.specs.Programs.{howOften, servedLines, imageEnd, servedText}
 use Rattle.paper.specs.Promises.{PrintsServed}
 use Rattle.facts.proofs.ImageFacts.{accepted-image}
-use Rattle.serving.specs.Columns.{lookUpsOf, serverOf, runningOf}
-use Rattle.serving.proofs.LookUps.{column-sum}
-use Rattle.serving.proofs.Counting.{server-inside}
+use Rattle.counting.specs.Columns.{lookUpsOf, serverOf, runningOf}
+use Rattle.counting.proofs.LookUps.{column-sum}
+use Rattle.counting.proofs.Counting.{server-inside}
 
 module _ (input : List ℕ) where
   -- The image that the input begins with, and the payload behind it.

@@ -9,7 +9,7 @@ use Rattle.facts.proofs.ImageFacts.{AcceptedImage}
 use Rattle.view.specs.declared.View.{View}
 use Rattle.view.proofs.Opening.{IsOpen}
 use Rattle.serving.specs.Accepted.{Accepted}
-use Rattle.serving.specs.Columns.{CountsOf, serverOf, runningOf}
+use Rattle.counting.specs.Columns.{CountsOf, serverOf, runningOf}
 use Rattle.serving.specs.declared.Columns.{Columns}
 
 -- Of a view and a payload.

@@ -8,10 +8,10 @@ use borrow.Author.Needs.{needs}
 use denote.Ref.{now}
 use lib.ListN.{getD}
 use Rattle.weights.specs.Weighed.{weightIn}
-use Rattle.best.specs.Keys.{fitsIn, keyIn}
+use Rattle.pairs.specs.Keys.{fitsIn, keyIn}
 use Rattle.best.specs.Picked.{InRow, Picked}
-use Rattle.best.proofs.Keys.{key-small}
-use Rattle.best.proofs.Taken.{taken-short, taken-full, taken-other}
+use Rattle.pairs.proofs.Keys.{key-small}
+use Rattle.pairs.proofs.Taken.{taken-short, taken-full, taken-other}
 use Rattle.best.proofs.Picked.{picked-starts, picked-full, picked-passed, picked-unfit, picked-worse, picked-better}
 use Rattle.best.proofs.best_in_row.Statement.{statement}
 use Rattle.best.proofs.best_in_row.Tie as tie

@@ -7,9 +7,9 @@ use borrow.Author.Needs.{needs}
 use denote.Ref.{now}
 use lib.ListN.{length, length-set}
 use Rattle.weights.specs.Weighed.{weightIn}
-use Rattle.best.specs.Keys.{fitsIn, keyIn}
+use Rattle.pairs.specs.Keys.{fitsIn, keyIn}
 use Rattle.best.specs.Searched.{Searched}
-use Rattle.best.proofs.Keys.{fits-small}
+use Rattle.pairs.proofs.Keys.{fits-small}
 use Rattle.best.proofs.Searched.{searched-starts, searched-skips, searched-worse, searched-better}
 use Rattle.best.proofs.best_pair.Statement.{statement}
 use Rattle.best.proofs.best_pair.Tie as tie

@@ -4,7 +4,7 @@ use native.Mathlib.Omega.{arith}
 use borrow.Author.Needs.{needs}
 use denote.Ref.{now}
 use Rattle.weights.specs.Weighed.{weightIn}
-use Rattle.best.proofs.Keys.{fits-short}
+use Rattle.pairs.proofs.Keys.{fits-short}
 use Rattle.greedy.proofs.Joins.{Joins, joins-start, joins-none, joins-found, joins-more, joins-all}
 use Rattle.greedy.proofs.take_best.Statement.{statement}
 use Rattle.greedy.proofs.take_best.Tie as tie

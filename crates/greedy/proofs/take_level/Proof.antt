@@ -9,9 +9,9 @@ use lib.ListN.{getD}
 use Rattle.paper.specs.Levels.{row, rows}
 use Rattle.joining.specs.declared.Forest.{Forest}
 use Rattle.weights.specs.Weighed.{weightIn}
-use Rattle.best.specs.Taken.{isTaken}
+use Rattle.pairs.specs.Taken.{isTaken}
 use Rattle.greedy.specs.Good.{Becomes}
-use Rattle.best.proofs.Taken.{taken-short}
+use Rattle.pairs.proofs.Taken.{taken-short}
 use Rattle.greedy.proofs.Rows.{rows-start, row-starts, row-dropped, row-added, row-passed, row-full, rows-more, rows-end}
 use Rattle.greedy.proofs.take_level.Statement.{statement}
 use Rattle.greedy.proofs.take_level.Tie as tie

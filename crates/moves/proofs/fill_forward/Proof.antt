@@ -7,7 +7,7 @@ use Rattle.paper.specs.Words.{Bytes}
 use Rattle.paper.specs.Labels.{one, two}
 use Rattle.words.specs.Placed.{placed}
 use Rattle.words.proofs.Lent.{fits-bytes}
-use Rattle.moves.proofs.Across.{old-one, held-counted, labels-written}
+use Rattle.relabel.proofs.Across.{old-one, held-counted, labels-written}
 use Rattle.moves.proofs.Filled.{entries-few, moved-filled}
 use Rattle.moves.proofs.fill_forward.Statement.{statement}
 use Rattle.moves.proofs.fill_forward.Tie as tie

@@ -14,8 +14,8 @@ use Rattle.paper.specs.Results.{labelsHeld}
 use Rattle.paper.proofs.Editions.{first-edition, second-edition}
 use Rattle.facts.proofs.ImageFacts.{AcceptedImage, accepted-image}
 use Rattle.words.proofs.Lent.{fits-bytes}
-use Rattle.moves.specs.Pieces.{numbered}
-use Rattle.moves.proofs.Across.{held-numbered}
+use Rattle.relabel.specs.Pieces.{numbered}
+use Rattle.relabel.proofs.Across.{held-numbered}
 use Rattle.moves.proofs.Filled.{entries-few}
 use Rattle.moves.proofs.Verdict.{forward-image, forward-wrong, forward-short, forward-built}
 use Rattle.moves.proofs.forward.Statement.{statement}

@@ -2,7 +2,7 @@
 use denote.Ref.{now}
 use borrow.Author.Needs.{needs}
 use Rattle.image.proofs.Accepted.{accepted-laid}
-use Rattle.serving.proofs.Counting.{zeros}
+use Rattle.counting.proofs.Counting.{zeros}
 use Rattle.serving.proofs.columns_in.Statement.{statement}
 use Rattle.serving.proofs.columns_in.Tie as tie
 

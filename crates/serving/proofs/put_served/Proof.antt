@@ -1,7 +1,7 @@
 -- The columns make the lines.
 use native.Mathlib.Omega.{arith}
 use borrow.Author.Needs.{needs}
-use Rattle.serving.proofs.Counting.{lines-are}
+use Rattle.counting.proofs.Counting.{lines-are}
 use Rattle.serving.proofs.put_served.Statement.{statement}
 use Rattle.serving.proofs.put_served.Tie as tie
 

@@ -13,7 +13,7 @@ use Rattle.facts.proofs.CountFacts.{AllInRange, all-in-range, few-entries}
 use Rattle.table.proofs.Decided.{Decided, passed}
 use Rattle.image.specs.Laid.{Laid}
 use Rattle.image.specs.Grounds.{firstGrounds}
-use Rattle.judge.specs.Counted.{Counted}
+use Rattle.contents.specs.Counted.{Counted}
 use Rattle.judge.proofs.Judged.{from2, fromCounts, from3, from4, from5, from6, from7, fromLabels, from8, from9, from10, not-short, counted-so, counts-laid}
 use Rattle.judge.proofs.first_grounds.Tie as tie
 

@@ -10,7 +10,7 @@ use Rattle.paper.specs.Below.{any}
 use Rattle.paper.specs.Patch.{count, entriesPart}
 use Rattle.paper.proofs.Below.{any-more, any-found}
 use Rattle.patch.proofs.Parts.{part-length}
-use Rattle.judge.specs.Tests.{classWrong}
+use Rattle.contents.specs.Tests.{classWrong}
 use Rattle.patch.proofs.in_entries.entry_classes_bad.Statement.{statement}
 use Rattle.patch.proofs.in_entries.entry_classes_bad.Tie as tie
 

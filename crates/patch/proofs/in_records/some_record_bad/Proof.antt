@@ -11,7 +11,7 @@ use Rattle.paper.specs.Patch.{recordsAt}
 use Rattle.paper.proofs.Below.{any-more, any-found}
 use Rattle.image.specs.Forms.{recordAt}
 use Rattle.image.specs.declared.Record.{Record}
-use Rattle.judge.specs.Tests.{recordWrong}
+use Rattle.contents.specs.Tests.{recordWrong}
 use Rattle.patch.proofs.in_records.some_record_bad.Statement.{statement}
 use Rattle.patch.proofs.in_records.some_record_bad.Tie as tie
 

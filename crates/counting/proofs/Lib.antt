@@ -1,0 +1,4 @@
+pub mod HowOften
+pub mod Column
+pub mod LookUps
+pub mod Counting
