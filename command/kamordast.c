@@ -9,6 +9,7 @@
 #include "layout.h"
 #include "patches.h"
 #include "refusals.h"
+#include "report.h"
 #include "reports.h"
 #include "served.h"
 #include "status.h"
@@ -38,6 +39,7 @@ static const char help[] =
     "                                 the same by IMAGE with PATCH, which is not applied for it\n"
     "  walk TABLE PAYLOAD [STATE]     the same as scan by the table itself, without an image and without hops\n"
     "  served [--sort] IMAGE PAYLOAD  for each state how often it served and how often it ran; --sort: the one that served most first\n"
+    "  report IMAGE [PAYLOAD]         a page of HTML on standard output: what the image is, its forest, how hops and entries are spread, and what PAYLOAD did with it\n"
     "  bounds TABLE                   depth, worst, entries, defaults and bytes with bounds 0 to 3\n"
     "  forest [--dot] [--order N] TABLE BOUND\n"
     "                                 which state falls back to which, as lines or for Graphviz\n"
@@ -53,6 +55,7 @@ static const char help[] =
     "Example: kamordast reduce endings.table reduced.table\n"
     "Example: kamordast compact --order 3 examples/words.table 0 words.image\n"
     "Example: kamordast served --sort words.image README.md\n"
+    "Example: kamordast report words.image README.md\n"
     "Example: kamordast walk examples/words.table README.md\n"
     "Example: kamordast walk examples/endings.table README.md\n"
     "Example: kamordast rewrite words.image words-new.image\n"
@@ -277,6 +280,7 @@ static int run(int count, char **words) {
         int sorted = option(&count, words, "--sort", NULL);
         return count == 4 ? served(words[2], words[3], sorted) : usage("served wants [--sort] IMAGE PAYLOAD");
     }
+    if (!strcmp(command, "report")) return count == 3 || count == 4 ? report(words[2], count == 4 ? words[3] : NULL) : usage("report wants IMAGE [PAYLOAD]");
     if (!strcmp(command, "bounds")) return count == 3 ? bounds(words[2]) : usage("bounds wants TABLE");
     if (!strcmp(command, "forest")) {
         const char *order = "0";

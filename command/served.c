@@ -47,10 +47,13 @@ static walk taken(uint32_t state, size_t bytes) {
     return w;
 }
 
-/* Whether the archive's scan of the same bytes takes them all and ends where the walk did, after as many hops. */
-static int scan_agrees(size_t length, uint32_t state, size_t bytes, walk w) {
-    kamordast_scanned r = kamordast_scan(image, length, state, piece, bytes, reports, sizeof reports);
-    return r.refused == 0 && r.taken == bytes && r.state == w.state && r.hops == w.hops;
+/* Whether the archive's scan of the same bytes took them all and ended where the walk did, after as many hops. */
+static int scan_agrees(kamordast_scanned r, size_t bytes, walk w) { return r.refused == 0 && r.taken == bytes && r.state == w.state && r.hops == w.hops; }
+
+uint32_t hops_of(uint32_t state, uint32_t class) {
+    uint32_t hops = 0;
+    for (; stored[state][class] == NO_STATE; state = fallback[state]) hops++;
+    return hops;
 }
 
 /* By how often a state served, the most first; states that served as often by their numbers. */
@@ -60,10 +63,14 @@ static int busier(const void *one, const void *other) {
     return a < b ? -1 : 1;
 }
 
-static void print_lines(uint32_t n, int sorted) {
-    uint16_t states[512];
+void by_work(uint16_t *states, uint32_t n, int sorted) {
     for (uint32_t s = 0; s < n; s++) states[s] = (uint16_t)s;
     if (sorted) qsort(states, n, sizeof *states, busier);
+}
+
+static void print_lines(uint32_t n, int sorted) {
+    uint16_t states[512];
+    by_work(states, n, sorted);
     for (uint32_t i = 0; i < n; i++) printf("%u %llu %llu\n", (unsigned)states[i], (unsigned long long)times_served[states[i]], (unsigned long long)times_running[states[i]]);
 }
 
@@ -75,31 +82,42 @@ static void say_share(const char *payload, uint64_t without_hop, uint64_t bytes)
     fprintf(stderr, "\n");
 }
 
-int served(const char *image_name, const char *payload_name, int sorted) {
+int count_rows(const char *image_name, const char *payload_name, row_counts *counts, reported *tell) {
     size_t length = read_file(image_name, image, LONGEST_IMAGE), bytes;
-    uint64_t all = 0, without_hop = 0;
     uint32_t refused = kamordast_judge_image(image, length), state = number16(image, 4);
     if (refused) return refuse(image_name, refused);
     read_rows(length);
-    int file = open_file(payload_name);
-    while ((bytes = read_piece(file, payload_name, piece, sizeof piece)) > 0) {
+    *counts = (row_counts){image, length, times_served, times_running, 0, 0, 0, 0};
+    int file = payload_name ? open_file(payload_name) : -1;
+    while (payload_name && (bytes = read_piece(file, payload_name, piece, sizeof piece)) > 0) {
         walk w = taken(state, bytes);
-        if (!scan_agrees(length, state, bytes, w)) {
+        kamordast_scanned r = kamordast_scan(image, length, state, piece, bytes, reports, sizeof reports);
+        if (!scan_agrees(r, bytes, w)) {
             fprintf(stderr, "kamordast: %s: the count is not what the scan answers, within the %zu bytes behind byte %llu of %s\n", image_name, bytes,
-                    (unsigned long long)all, payload_name);
+                    (unsigned long long)counts->bytes, payload_name);
             fprintf(stderr, "  what to do: keep both files and call the engineers; no line was printed\n");
             return APART;
         }
+        for (size_t i = 0; tell && i < r.reports; i++) tell(counts->bytes + number32(reports, 6 * i), number16(reports, 6 * i + 4));
         state = w.state;
-        without_hop += w.without_hop;
-        all += bytes;
+        counts->without_hop += w.without_hop;
+        counts->hops += w.hops;
+        counts->reports += r.reports;
+        counts->bytes += bytes;
     }
-    close(file);
+    if (payload_name) close(file);
+    return DONE;
+}
+
+int served(const char *image_name, const char *payload_name, int sorted) {
+    row_counts counts;
+    int status = count_rows(image_name, payload_name, &counts, NULL);
+    if (status != DONE) return status;
     /* All lines go out in one write: a reader who takes the first of them only does not end the run before the share is said. */
     static char lines[512 * 48];
     setvbuf(stdout, lines, _IOFBF, sizeof lines);
     print_lines(states_of(image), sorted);
     fflush(stdout);
-    say_share(payload_name, without_hop, all);
+    say_share(payload_name, counts.without_hop, counts.bytes);
     return DONE;
 }
