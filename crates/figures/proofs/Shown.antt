@@ -12,7 +12,7 @@ use Rattle.paper.specs.Promises.{Compacts}
 use Rattle.paper.proofs.Refused.{compact-refused}
 use Rattle.facts.proofs.ImageFacts.{AcceptedImage, accepted-image}
 use Rattle.trips.proofs.Building.{result-fits, result-none}
-use Rattle.kamordast.proofs.Compacted.{compacted-accepted}
+use Rattle.demands.proofs.Compacted.{compacted-accepted}
 use Rattle.figures.specs.Figures.{Shows}
 
 module _ (t : List ℕ) (order D : ℕ) (room : List ℕ) {number l : ℕ} {left : List ℕ} (P : Compacts t order D room number l left) where

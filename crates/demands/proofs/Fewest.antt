@@ -9,7 +9,7 @@ use Rattle.paper.specs.Operations.{result, listed, compact, write}
 use Rattle.paper.proofs.Orders.{defaults-few}
 use Rattle.trees.proofs.Fewest.{fewest}
 use Rattle.trips.proofs.ExpandsBack.{compact-leaves, write-leaves}
-use Rattle.kamordast.proofs.Transitions.{imageTransitions, image-transitions}
+use Rattle.demands.proofs.Transitions.{imageTransitions, image-transitions}
 
 -- In the orders 0, 1 and 2, with D at n - 1 or more, compact leaves no more than write leaves with any list of defaults that it accepts.
 pub fewest-entries : (t ds : List ℕ) (order D : ℕ) (room room′ : List ℕ) → Bytes t → order ≤ 2 → states t ≤ D + 1 → compact t order D room .number ≡ 0 → write t ds room′ .number ≡ 0

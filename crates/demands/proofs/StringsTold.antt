@@ -21,8 +21,8 @@ use Rattle.strings.proofs.Told.{Told, told-all}
 use Rattle.strings.proofs.Claimed.{is-longest}
 use Rattle.readback.proofs.Accepted.{strings-leaves, tabulated-bytes, tabulated-reads, reads-rules, tabulated-accepted}
 use Rattle.walk.proofs.Verdict.{walk-done, walk-clear}
-use Rattle.kamordast.proofs.Left as left
-use Rattle.kamordast.proofs.Scanned as scanned
+use Rattle.demands.proofs.Left as left
+use Rattle.demands.proofs.Scanned as scanned
 
 -- The labels of all strings that end at each offset of a payload are told, and nothing else.
 abbrev pub TellsAll : List ℕ → List ℕ → List ℕ → Scanned → Type 0

@@ -20,7 +20,7 @@ use Rattle.trips.proofs.Rewritten as trips
 use Rattle.trips.proofs.WorthBuilt.{rewrite-leaves}
 use Rattle.scan.proofs.OneByte.{goes}
 use Rattle.scan.proofs.Fewer.{scan-fewer}
-use Rattle.kamordast.proofs.Scanned.{table-says, accepted-walks}
+use Rattle.demands.proofs.Scanned.{table-says, accepted-walks}
 
 -- Two outcomes that agree with a third in all but the hops agree with each other.
 walks-through : {o p q : Scanned} → SameWalk o p → SameWalk o q → SameWalk q p

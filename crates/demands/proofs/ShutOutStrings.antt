@@ -12,8 +12,8 @@ use Rattle.paper.specs.Operations.{Built, stringsGrounds, strings}
 use Rattle.paper.specs.Promises.{Tabulates}
 use Rattle.paper.specs.Cases.{stringOf, room, Case, right}
 use Rattle.paper.proofs.Cases.{pick-right}
-use Rattle.kamordast.proofs.Known as known
-use Rattle.kamordast.proofs.Known.{allBytes, bytes-tested}
+use Rattle.demands.proofs.Known as known
+use Rattle.demands.proofs.Known.{allBytes, bytes-tested}
 
 -- The word lists of "a" and of "ab", each with the label 5.
 abbrev one : List ℕ

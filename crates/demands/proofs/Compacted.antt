@@ -27,7 +27,7 @@ use Rattle.trees.proofs.Fewest.{transitions}
 use Rattle.trees.proofs.Bounds.{bound-zero, bound-free}
 use Rattle.trips.proofs.ImageOf.{reads, image-of-accepted, defaults-of-image}
 use Rattle.trips.proofs.ExpandsBack.{compact-leaves}
-use Rattle.kamordast.proofs.Transitions.{imageTransitions, image-transitions}
+use Rattle.demands.proofs.Transitions.{imageTransitions, image-transitions}
 
 module _ (t : List ℕ) (order D : ℕ) (room : List ℕ) (B : Bytes t) (e : compact t order D room .number ≡ 0) where
   -- The image that it leaves.

@@ -13,8 +13,8 @@ use Rattle.paper.specs.Handed.{ToJudge, ToCompact, ToWrite, ToConvert, ToRun}
 use Rattle.paper.specs.Cases.{T, T2, T-two, three, three3, aabbb, room}
 use Rattle.paper.proofs.Editions.{one≢two}
 use Rattle.trips.proofs.EditionKept.{compact-keeps-edition}
-use Rattle.kamordast.proofs.Known as known
-use Rattle.kamordast.proofs.Known.{Accepts, toThree, rootsOnly, aaaaa}
+use Rattle.demands.proofs.Known as known
+use Rattle.demands.proofs.Known.{Accepts, toThree, rootsOnly, aaaaa}
 
 -- A program that refuses every table is not the judge of tables.
 pub judge-table-refuses-all : (p : ToJudge → ℕ) → ((x : ToJudge) → JudgesTable (x .given) (p x)) → ¬ ((x : ToJudge) → ¬ (p x ≡ 0))

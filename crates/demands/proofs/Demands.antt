@@ -55,13 +55,13 @@ use Rattle.moves.proofs.Left as moves
 use Rattle.scan.proofs.Hops as hops
 use Rattle.walk.proofs.Hopless as hopless
 use Rattle.nearing.proofs.Scan as nearing
-use Rattle.kamordast.proofs.Scanned as scanned
-use Rattle.kamordast.proofs.MovedScans as moved
-use Rattle.kamordast.proofs.Left as left
-use Rattle.kamordast.proofs.Compacted as compacted
-use Rattle.kamordast.proofs.Fewest as least
-use Rattle.kamordast.proofs.Rewritten as rewritten
-use Rattle.kamordast.proofs.Wakes as links
+use Rattle.demands.proofs.Scanned as scanned
+use Rattle.demands.proofs.MovedScans as moved
+use Rattle.demands.proofs.Left as left
+use Rattle.demands.proofs.Compacted as compacted
+use Rattle.demands.proofs.Fewest as least
+use Rattle.demands.proofs.Rewritten as rewritten
+use Rattle.demands.proofs.Wakes as links
 
 -- Each operation's number is that of the first of its sentences that holds, 0 where none does.
 pub refusals-exact : ((t : List ℕ) (number : ℕ) → judgeTable t ≡ number ↔ FirstOf (tableSentences t) number)

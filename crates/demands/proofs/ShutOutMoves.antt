@@ -7,8 +7,8 @@ use Rattle.paper.specs.Operations.{Built, forward, back}
 use Rattle.paper.specs.Promises.{MovesForward, MovesBack}
 use Rattle.paper.specs.Handed.{ToConvert}
 use Rattle.paper.specs.Cases.{T2, room}
-use Rattle.kamordast.proofs.Known as known
-use Rattle.kamordast.proofs.ShutOut.{refuses-all, untouched}
+use Rattle.demands.proofs.Known as known
+use Rattle.demands.proofs.ShutOut.{refuses-all, untouched}
 
 -- A program p that keeps the promise of forward.
 module _ (p : ToConvert → Built) (keeps : (x : ToConvert) → MovesForward (x .image) (x .room) (p x .number) (p x .resultLength) (p x .room)) where

@@ -16,13 +16,13 @@ use Rattle.trips.proofs.ResultBytes.{table-of-bytes, moved-bytes}
 use Rattle.trips.proofs.WritesBack.{expand-leaves}
 use Rattle.trips.proofs.Moves.{Moves, forward-leaves, back-leaves}
 use Rattle.trips.proofs.Moved.{moved-reads, moved-accepted}
-use Rattle.kamordast.proofs.Left as left
-use Rattle.kamordast.proofs.Scanned as scanned
-use Rattle.kamordast.proofs.MovedScans as scans
-use Rattle.kamordast.proofs.Rewritten as rewriting
-use Rattle.kamordast.proofs.StringsTold as told
-use Rattle.kamordast.proofs.Reduction as reduction
-use Rattle.kamordast.proofs.Patches as patches
+use Rattle.demands.proofs.Left as left
+use Rattle.demands.proofs.Scanned as scanned
+use Rattle.demands.proofs.MovedScans as scans
+use Rattle.demands.proofs.Rewritten as rewriting
+use Rattle.demands.proofs.StringsTold as told
+use Rattle.demands.proofs.Reduction as reduction
+use Rattle.demands.proofs.Patches as patches
 
 -- An outcome that agrees with one that tells all tells all.
 tells-same : {list payload room : List ℕ} {o p : Scanned} → SameWalk o p → Tells list payload room o → Tells list payload room p

@@ -21,7 +21,7 @@ use Rattle.running.proofs.Verdict.{verdict-judged, verdict-clear}
 use Rattle.scan.proofs.Verdict.{image-numbered}
 use Rattle.patchscan.proofs.Found.{patchedRules}
 use Rattle.patchscan.proofs.Verdict.{patch-numbered}
-use Rattle.kamordast.proofs.MovedScans.{outcomes-equal}
+use Rattle.demands.proofs.MovedScans.{outcomes-equal}
 
 module _ (b x : List ℕ) (B : Bytes b) (z : judgePatch b x ≡ 0) where
   -- The image with the patch applied.

@@ -15,7 +15,7 @@ use Rattle.paper.specs.Operations.{Built, judgeTable, reduceGrounds, reduce}
 use Rattle.paper.specs.Promises.{Reduces}
 use Rattle.paper.specs.Cases.{T, twice, room, Case, right}
 use Rattle.paper.proofs.Cases.{pick-right}
-use Rattle.kamordast.proofs.Known as known
+use Rattle.demands.proofs.Known as known
 
 -- The table of five states of which two are left: its 302 bytes are reduced to 278, from the first of the room on. Of T all states are left, and so all 294 bytes.
 abbrev reducing : List Case

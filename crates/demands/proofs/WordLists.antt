@@ -16,7 +16,7 @@ use Rattle.paper.specs.Endings.{EndingOf, IsLongest}
 use Rattle.paper.specs.Sentences.{Some}
 use Rattle.paper.specs.Operations.{result, filled, judgeTable, strings, compact, write, scan, walk}
 use Rattle.strings.proofs.Listed as listed
-use Rattle.kamordast.proofs.StringsTold as told
+use Rattle.demands.proofs.StringsTold as told
 
 -- What strings leaves is an accepted table of edition 2; it has a state for each beginning of a string, and state 0, which stands for the empty one, is its start.
 pub strings-accepted : (b room : List ℕ) → Bytes b → strings b room .number ≡ 0

@@ -22,8 +22,8 @@ use Rattle.paper.specs.Operations.{Built, Scanned, compacted, scanGrounds, scan
 use Rattle.paper.specs.Promises.{JudgesPatch, Applies, ScansPatched}
 use Rattle.paper.specs.Cases.{T2, X0, X3, room, Case, right}
 use Rattle.paper.proofs.Cases.{pick, pick-right}
-use Rattle.kamordast.proofs.Known as known
-use Rattle.kamordast.proofs.Known.{allBytes}
+use Rattle.demands.proofs.Known as known
+use Rattle.demands.proofs.Known.{allBytes}
 
 -- The patch that makes a state of T's image a root is accepted, and the one that makes an entry of a state needless that it does not list is refused with 12. The applied image is longer than the image, and a byte costs other hops with it.
 abbrev patching : List Case

@@ -23,8 +23,8 @@ use Rattle.damage.proofs.PatchDamage as damage
 use Rattle.trips.proofs.Building.{built-result, first-both, first-neither}
 use Rattle.trips.proofs.Applied.{applied-reads, applied-facts}
 use Rattle.trips.proofs.ResultBytes.{applied-bytes}
-use Rattle.kamordast.proofs.PatchedScans.{patched-scans}
-use Rattle.kamordast.proofs.PatchExact as exactly
+use Rattle.demands.proofs.PatchedScans.{patched-scans}
+use Rattle.demands.proofs.PatchExact as exactly
 
 -- What apply accepts is a patch that is accepted against the image, and the image with the patch applied is left.
 pub apply-leaves : (b x room : List ℕ) → apply b x room .number ≡ 0 → (judgePatch b x ≡ 0) × (result (apply b x room) ≡ applied b x)
