@@ -20,7 +20,7 @@ module _ (k : ℕ) (T : ℕ → ℕ → ℕ) (lab : ℕ → List ℕ) where
   pub alike-ends : (i x y : ℕ) → Alike i x y → SameEnds k T T lab lab i x y
   alike-ends i x y e [] l a = alike-labels i x y e
   alike-ends zero x y e (c ∷ w) l a = absurd (omega arith)
-  alike-ends (suc i) x y (e, f) (c ∷ w) l (h, a) = alike-ends i (T x c) (T y c) (f c h) w (omega arith) a
+  alike-ends (suc i) x y e (c ∷ w) l (h, a) = alike-ends i (T x c) (T y c) (e.1 c h) w (omega arith) a
 
   -- What no such word tells apart is alike.
   pub ends-alike : (i x y : ℕ) → SameEnds k T T lab lab i x y → Alike i x y

@@ -43,6 +43,7 @@ module _ (n : ℕ) (rest : Trees → ℕ × ℕ → ℕ) (F : Trees) where
 
   -- Of a sorted list the pair to take next goes ahead of all.
   pub next_pair_ahead : (p : ℕ × ℕ) (ps : List (ℕ × ℕ)) → Sorted (p ∷ ps) → (r : ℕ × ℕ) → Among r (p ∷ ps) → Ahead n rest F (next_pair n rest F p ps) r
+  next_pair_ahead p [] s r (inr x) = elim x [ ]
   next_pair_ahead p [] s r (inl e) = rw e (ahead_self p)
   next_pair_ahead p (q ∷ qs) s r m =
       go (ltb (rest F q) (rest F p)) refl m (next_pair_ahead q qs s.1) (next_pair_ahead p qs (λ x k. s.0 x (inr k), s.1.1))

@@ -1,7 +1,7 @@
 -- The chains of defaults that point to the roots: each ends at the root after as many steps as the root is far.
 use mathlib.Core.Path.{◌≡◌, sym, ◌∙◌, ap}
 use mathlib.Core.Option.{Option, some}
-use Prim.Native.Nat.{ℕ, suc, ◌+◌, ◌/◌, ◌≤◌, ◌<◌}
+use Prim.Native.Nat.{ℕ, zero, suc, ◌+◌, ◌/◌, ◌≤◌, ◌<◌}
 use native.Mathlib.Omega.{arith}
 use native.Mathlib.Decide.{ℕ_discrete}
 use Rattle.paper.specs.Below.{largest, or}
@@ -20,6 +20,7 @@ module _ (n : ℕ) (lean : Trees → ℕ → ℕ) (F : Trees) (M : Metric F) (I 
     (v : View) (same : (x : ℕ) → x < n → v.default x ≡ points_to n lean F x) where
   -- Where there are steps enough, the chain of a state ends at its root after as many steps as the root is far.
   chain-ends : (left x : ℕ) → x < n → F.distance x (root n lean F x) < left → chain v left x ≡ some (F.distance x (root n lean F x))
+  chain-ends zero x l h = elim h [ ]
   chain-ends (suc left) x l h =
       elim (ℕ_discrete x (root n lean F x)) [
         | yes e ↦ rw (same x l, points_to-root n lean F M I x l e) (ap some (sym (ap (F.distance x) (sym e) ∙ M.self x)))

@@ -71,6 +71,7 @@ without_sorted p (q ∷ qs) s = go (eqb p.0 q.0 && eqb p.1 q.1) (without_sorted 
 
 -- Every other pair stays.
 pub without_others : (p r : ℕ × ℕ) (ps : List (ℕ × ℕ)) → Among r ps → ¬ (r ≡ p) → Among r (without p ps)
+without_others p r [] m ne = elim m [ ]
 without_others p r (q ∷ qs) m ne = go (same_pair p q) m (λ x. without_others p r qs x ne)
   where
     go : Dec (p ≡ q) → Among r (q ∷ qs) → (Among r qs → Among r (without p qs)) → Among r (without p (q ∷ qs))
@@ -81,6 +82,7 @@ without_others p r (q ∷ qs) m ne = go (same_pair p q) m (λ x. without_others 
 
 -- A list without one of its pairs is shorter by 1.
 pub without_length : (p : ℕ × ℕ) (ps : List (ℕ × ℕ)) → Among p ps → suc (length (without p ps)) ≡ length ps
+without_length p [] m = elim m [ ]
 without_length p (q ∷ qs) m = go (same_pair p q) m (without_length p qs)
   where
     go : Dec (p ≡ q) → Among p (q ∷ qs) → (Among p qs → suc (length (without p qs)) ≡ length qs) → suc (length (without p (q ∷ qs))) ≡ length (q ∷ qs)
@@ -107,6 +109,8 @@ among-each (suc n) i f p l m = go (ℕ_discrete i n) (among-each n i f p)
 
 -- A list of one pair, where a test passes, holds that pair.
 listed : (b : Bool) (u v : ℕ) (p : ℕ × ℕ) → Among p (cond b ((u, v) ∷ []) []) → p ≡ (u, v)
+listed false u v p x = elim x [ ]
+listed true u v p (inr x) = elim x [ ]
 listed true u v p (inl e) = e
 
 -- It is sorted.

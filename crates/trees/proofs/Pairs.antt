@@ -3,7 +3,7 @@ use mathlib.Core.Path.{◌≡◌, refl}
 use mathlib.Core.Bool.{Bool, true, false, cond, ◌&&◌}
 use mathlib.Core.Logic.{◌⊎◌, inl, inr}
 use mathlib.Core.List.{List, [], ◌∷◌}
-use Prim.Native.Nat.{ℕ, suc, ◌<◌}
+use Prim.Native.Nat.{ℕ, zero, suc, ◌<◌}
 use native.Mathlib.Omega.{arith}
 use lib.Dec.{ltb, eqb}
 use borrow.Author.Tests.{ltb-true, eqb-true}
@@ -29,6 +29,7 @@ next_pair_among n rest F p (q ∷ qs) =
 
 -- What is left without a pair was there before.
 pub without_among : (p r : ℕ × ℕ) (ps : List (ℕ × ℕ)) → Among r (without p ps) → Among r ps
+without_among p r [] a = elim a [ ]
 without_among p r (q ∷ qs) a = go (eqb p.0 q.0 && eqb p.1 q.1) a (without_among p r qs)
   where
     go : (b : Bool) → Among r (cond b qs (q ∷ without p qs)) → (Among r (without p qs) → Among r qs) → Among r (q ∷ qs)
@@ -38,6 +39,7 @@ without_among p r (q ∷ qs) a = go (eqb p.0 q.0 && eqb p.1 q.1) a (without_amon
 
 -- What is in the lists of the numbers below n is in one of them.
 pub each-among : (n : ℕ) (f : ℕ → List (ℕ × ℕ)) (p : ℕ × ℕ) → Among p (each n f) → (i : ℕ) × (i < n) × Among p (f i)
+each-among zero f p a = elim a [ ]
 each-among (suc n) f p a = go (among-append p (each n f) (f n) a) (each-among n f p)
   where
     go : Among p (each n f) ⊎ Among p (f n) → (Among p (each n f) → (i : ℕ) × (i < n) × Among p (f i))
@@ -55,6 +57,8 @@ pairs_weigh n weight w p a =
   where
     listed : (u v : ℕ) → v < n → (t : Bool) → ltb u v && eqb (weight u v) w ≡ t → Among p (cond t ((u, v) ∷ []) [])
         → Weighs n weight w p
+    listed u v vb false e x = elim x [ ]
+    listed u v vb true e (inr x) = elim x [ ]
     listed u v vb true e (inl q) =
         let (l, k) = and_true (ltb u v) (eqb (weight u v) w) e in
         rw q (record { rising = ltb-true u v l; inside = vb; heavy = eqb-true (weight u v) w k })

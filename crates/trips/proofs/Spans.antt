@@ -74,9 +74,9 @@ module _ (f : ℕ → List ℕ) (at : ℕ → ℕ) where
     -- Each part of a row stands in its place.
     pub spans_part : {b : List ℕ} {z : ℕ} (n i : ℕ) → Spans b (at 0) (each n f) z → i < n → Spans b (at i) (f i) (at (suc i))
     spans_part zero i h hi = absurd (not-suc-le-zero hi)
-    spans_part {b} (suc n) i h hi =
+    spans_part {b} {z} (suc n) i h hi =
         let (before, last) = peel (each n f) (f n) (at n) h (length-each n) in
-        go (ℕ_discrete i n) (spans_to (f n) (at (suc n)) last (wide n)) (spans_part n i before)
+        go (ℕ_discrete i n) (spans_to (f n) (at (suc n)) last (wide n)) (spans_part {z = at n} n i before)
       where
         go : Dec (i ≡ n) → Spans b (at n) (f n) (at (suc n)) → (i < n → Spans b (at i) (f i) (at (suc i))) → Spans b (at i) (f i) (at (suc i))
         go (yes e) last ih = rw e last
