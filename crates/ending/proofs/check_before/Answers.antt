@@ -1,0 +1,10 @@
+-- The check word is that of the part before the place.
+use mathlib.Core.Path.{sym}
+use lib.Seq.{length-take-le}
+use Rattle.ending.proofs.check_before.Goals as goal
+
+pub slice_bounds-check_word-end : goal.slice_bounds-check_word-end
+slice_bounds-check_word-end c = sym (length-take-le c.args.at c.args.b.now c.requires.0)
+
+pub check_word-requires : goal.check_word-requires
+check_word-requires c = rw (length-take-le c.args.at c.args.b.now c.requires.0) (c.requires.1, c.requires.2)

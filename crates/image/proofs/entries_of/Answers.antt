@@ -1,0 +1,29 @@
+-- The part between two places of the list of begins is the state's.
+use Rattle.image.proofs.Places.{Between}
+use Rattle.image.proofs.Parts.{part_between, between}
+use borrow.Author.Rules.{rules}
+use Rattle.image.proofs.entries_of.Goals as goal
+use Rattle.image.proofs.entries_of.Goals.{Start}
+
+-- The two places stand in the image.
+within : (c : Start) → Between c.args.image.now c.args.begins.now c.args.s
+within c = between c.args.image.now c.requires.0 c.args.s c.requires.2 c.args.begins.now c.requires.1
+
+pub overflow_cast-from : goal.overflow_cast-from
+overflow_cast-from c = let w = within (goal.at.overflow_cast-from c).Start in search (rules, w.rising, w.inside)
+
+pub overflow_cast-end : goal.overflow_cast-end
+overflow_cast-end c = let w = within (goal.at.overflow_cast-end c).Start in search (rules, w.inside)
+
+pub slice_bounds-result-count : goal.slice_bounds-result-count
+slice_bounds-result-count c = (within (goal.at.slice_bounds-result-count c).Start).rising
+
+pub slice_bounds-result-start : goal.slice_bounds-result-start
+slice_bounds-result-start c = (within (goal.at.slice_bounds-result-start c).Start).rising
+
+pub slice_bounds-result-end : goal.slice_bounds-result-end
+slice_bounds-result-end c = (within (goal.at.slice_bounds-result-end c).Start).inside
+
+pub returns : goal.returns
+returns c =
+    part_between c.args.image.now c.requires.0 c.args.s c.requires.2 c.args.begins.now c.requires.1

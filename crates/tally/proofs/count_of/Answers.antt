@@ -1,0 +1,26 @@
+use mathlib.Core.Path.{◌≡◌, refl}
+use mathlib.Core.Logic.{inl, inr, ⊎_elim}
+use Prim.Native.Nat.{◌-◌}
+use native.Mathlib.Omega.{arith}
+use Rattle.tally.proofs.Counting.{counted}
+use Rattle.tally.proofs.count_of.Goals as goal
+
+pub loop-c-init : goal.loop-c-init
+loop-c-init c = (omega arith, refl, omega arith)
+
+pub keeps-requires : goal.keeps-requires
+keeps-requires c = (c.requires.0, c.requires.1, c.loop-c-test.true, c.requires.2)
+
+pub overflow_add-count : goal.overflow_add-count
+overflow_add-count c = omega (arith, c.loop-c.invariant.2, c.requires.0.few_classes)
+
+pub loop-c-preserved : goal.loop-c-preserved
+loop-c-preserved c =
+    let a = c.args in
+    counted a.t.now a.k a.s a.d c.loop-c.c c.loop-c.count c.if-keeps.count c.keeps.result c.loop-c.invariant c.loop-c-test.true c.keeps.ensures
+    (⊎_elim (λ w. inl (w.0.taken, w.1)) (λ w. inr (w.0.left, w.1)) c.if-keeps.branch)
+
+pub returns : goal.returns
+returns c =
+    let e : c.loop-c.c ≡ c.args.k = omega arith in
+    rw e at c.loop-c.invariant.1

@@ -1,0 +1,650 @@
+#!/usr/bin/env python3
+"""Turns a crate's proofs/F/Proof.antt, which hands each answer to the borrow checker's `spec`, into Invariants.antt and Answers.antt.
+
+usage: answers.py CRATE-FOLDER NAMES.JSON [FUNCTION..]
+
+NAMES.JSON is what `rt check --generated DIR --old-names` writes in the crate: the old and the new name of each goal, step and loop.
+Answers that only say `omega arith` or `search rules` are left out, since the check tries more by itself. A file that it cannot turn stays, and it says why.
+"""
+import glob
+import json
+import os
+import re
+import sys
+
+W = r"[^\s(){}.;,@\"«»\[\]\\]+"
+n = lambda s: s.replace("_", "-")
+
+
+class Left(Exception):
+    pass
+
+
+def mutable_params(root):
+    """The parameters of each function that are lent by &mut, by the function's name."""
+    out = {}
+    for p in glob.glob(os.path.join(root, "crates", "*", "src", "**", "*.rt"), recursive=True):
+        t = open(p, encoding="utf-8").read()
+        for m in re.finditer(r"\bfn (\w+)(?:<[^>(]*>)?\(([^)]*)\)", t):
+            ps = []
+            for q in re.split(r",\s*(?![^<\[]*[>\]])", m.group(2)):
+                q = q.strip()
+                if not q:
+                    continue
+                if q.startswith("&mut self"):
+                    ps.append("self")
+                    continue
+                if ":" not in q:
+                    continue
+                name, ty = q.split(":", 1)
+                name = name.strip().removeprefix("mut ").strip()
+                if ty.strip().startswith("&") and "mut " in ty:
+                    ps.append(name)
+            out.setdefault(m.group(1), ps)
+    return out
+
+
+class Names:
+    def __init__(self, mod, muts, crate_fns):
+        self.muts = muts
+        self.needs, self.needs_new = {}, {}
+        self.need_place = {}
+        self.new_goals = [b for a, b in mod["needs"]]
+        for (a, b), (pa, pb) in zip(mod["needs"], mod["asked_at"]):
+            self.needs.setdefault(n(a), b)
+            self.needs_new.setdefault(n(b), b)
+            self.need_place[b] = pa
+        self.settled = {n(s) for s in mod["settled"]}
+        self.parent, self.step, self.newplace, self.callee = {}, {}, {}, {}
+        for (name, parent, st, callee, *_), nn in zip(mod["places"], mod["places_by_name"]):
+            self.parent[name] = parent
+            self.step[name] = st
+            self.newplace[name] = nn
+            self.callee[name] = callee
+        self.byn = {}
+        for p in self.parent:
+            self.byn.setdefault(n(p), p)
+        for p, q in self.newplace.items():
+            self.byn.setdefault(n(q), p)
+        self.typed = {}
+        for (name, *_), t in zip(mod["places"], mod["typed"]):
+            self.typed[name] = {n(s): x for x, s in t}
+        self.used, self.wants = set(), set()
+        self.params = mod['params']
+        self.clauses = {}
+        for (name, *_), c in zip(mod["places"], mod["clauses"]):
+            if c:
+                self.clauses[name] = c["fields"]
+        self.loops = {}
+        for (ln, vs), ch in zip(mod["loops"], mod["changed"]):
+            self.loops[n(ln[0])] = (ln[1], vs, ch)
+            self.loops.setdefault(n(ln[1]), (ln[1], vs, ch))
+
+    def place(self, text):
+        k = n(text)
+        if k not in self.byn:
+            raise Left(f"no place {text}")
+        return self.byn[k]
+
+    def goal(self, k):
+        k = n(k)
+        for table in (self.needs, self.needs_new):
+            for pre in ("overflow-", "nonzero-", ""):
+                if k.startswith(pre) and k[len(pre):] in table:
+                    return table[k[len(pre):]]
+        return None
+
+    def up(self, place, times):
+        for _ in range(times):
+            place = self.parent[place] or place
+        return place
+
+    def bare(self, root, at, place, goal):
+        """A place as an argument, from the place of the root."""
+        new = self.newplace[place]
+        if goal:
+            self.used.add(new)
+            return f"(goal.at.{goal} {root}).{new}"
+        if place == at:
+            return root
+        self.used |= {new, self.newplace[at]}
+        return f"(goal.at.{self.newplace[at]} {root}).{new}"
+
+    def field(self, place, field):
+        """The new name of a field that is read at a place or above it, and the place's callee."""
+        f = n(field)
+        if f in ("args", "ranges", "lifetimes", "requires", "well-formed", "type-inv", "pinned"):
+            return field.replace("-", "_") if f != "requires" else field, None
+        if f == "pre":
+            return "requires", None
+        p = place
+        while p is not None:
+            st = self.step[p]
+            if st and (n(st[0]) == f or n(st[1]) == f):
+                return st[1], p
+            p = self.parent[p]
+        return None, None
+
+
+def blocks(text):
+    """The file's head comment, its use lines, and its declarations: (comments, signature, rest)."""
+    lines = text.split("\n")
+    i = 0
+    head, uses = [], []
+    while i < len(lines) and (lines[i].startswith("--") or not lines[i].strip()):
+        if lines[i].strip():
+            head.append(lines[i])
+        elif head and any(l.startswith("use ") for l in lines[i:]):
+            pass
+        i += 1
+    while i < len(lines) and (lines[i].startswith("use ") or lines[i].startswith("    ") or not lines[i].strip()):
+        if lines[i].startswith("use "):
+            uses.append(lines[i])
+        elif lines[i].strip():
+            uses[-1] += "\n" + lines[i]
+        i += 1
+    decls = []
+    comments, cur = [], None
+    for l in lines[i:]:
+        m = re.match(r"(?:(?:abbrev|unfoldable|pub) )*(%s) :(?=\s|$)" % W, l)
+        if l.startswith("--"):
+            comments.append(l)
+            continue
+        if m and not l.startswith(" "):
+            cur = [comments, m.group(1), [l]]
+            comments = []
+            decls.append(cur)
+            continue
+        if cur is None:
+            if l.strip():
+                raise Left(f"a line before any declaration: {l}")
+            continue
+        if comments and l.strip():
+            cur[2] += comments
+            comments = []
+        cur[2].append(l)
+    for d in decls:
+        while d[2] and not d[2][-1].strip():
+            d[2].pop()
+    return head, uses, decls
+
+
+def split_decl(d):
+    """Signature text, unfolding lines, equations."""
+    sig, unf, eqs = [], [], []
+    state = "sig"
+    for l in d[2]:
+        if state == "sig":
+            if l.startswith("unfolding "):
+                unf.append(l)
+                state = "unf"
+                continue
+            if l.startswith(d[1] + " ") or l.startswith(d[1] + "\n"):
+                if sig:
+                    state = "eq"
+            if state == "sig":
+                sig.append(l)
+                continue
+        elif state == "unf":
+            state = "eq"
+        eqs.append(l)
+    return "\n".join(sig), unf, "\n".join(eqs)
+
+
+def word(w):
+    return r"(?<![^\s(){}.;,@\"«»\[\]\\])(?<!\.)" + re.escape(w) + r"(?![^\s(){}.;,@\"«»\[\]\\])"
+
+
+def arrows(ty):
+    """The parts of a type between its arrows at the top."""
+    out, depth, cur, i = [], 0, "", 0
+    while i < len(ty):
+        c = ty[i]
+        if c in "({[⟨":
+            depth += 1
+        elif c in ")}]⟩":
+            depth -= 1
+        if depth == 0 and c == "→":
+            out.append(cur.strip())
+            cur = ""
+            i += 1
+            continue
+        if depth == 0 and re.match(r"(?<![^\s])let\s", ty[i:]) and not cur.strip():
+            cur += ty[i:]
+            break
+        cur += c
+        i += 1
+    out.append(cur.strip())
+    return out
+
+
+def place_params(ty, params, names):
+    """The parameters of a helper that are places, by its type: those that the type names, and those of the equation; and by their number."""
+    insig, ineq, pos, i = {}, {}, {}, 0
+    for part in arrows(ty)[:-1]:
+        m = re.fullmatch(r"\(((?:%s )+): (.*)\)" % W, part, re.S)
+        if m:
+            vs, of = m.group(1).split(), m.group(2).strip()
+        elif part.startswith("{"):
+            continue
+        else:
+            vs, of = [None], part
+        k = re.match(r"tie\.(%s)" % W, of)
+        for v in vs:
+            if k:
+                pl = names.place(k.group(1))
+                if v:
+                    insig[v] = pl
+                if i < len(params):
+                    ineq[params[i]] = pl
+                pos[i] = pl
+            i += 1
+    return insig, ineq, pos
+
+
+def resolve(body, roots, names, starts, helpers, goal=None):
+    """Rewrites each path from a place: flat for a field, and a bare place by the place that is wanted."""
+    alias = {r: (r, roots[r], None) for r in roots}
+    P = r"%s(?:\.before)*" % W
+
+    def go(e):
+        r, place, st = e
+        return e
+
+    def place_expr(e):
+        e = e.strip()
+        while e.startswith("(") and e.endswith(")"):
+            d, ok = 0, True
+            for j, ch in enumerate(e):
+                d += (ch == "(") - (ch == ")")
+                if d == 0 and j < len(e) - 1:
+                    ok = False
+            if not ok:
+                break
+            e = e[1:-1].strip()
+        m = re.fullmatch(r"(%s?)((?:\.before)*)" % W, e)
+        if m and m.group(1) in alias:
+            r, pl, st = alias[m.group(1)]
+            k = m.group(2).count(".before")
+            return (r, names.up(pl, k), st if not k else None)
+        m = re.fullmatch(r"\((.*)\)((?:\.before)+)", e, re.S)
+        if m:
+            inner = place_expr(m.group(1))
+            if inner:
+                return (inner[0], names.up(inner[1], m.group(2).count(".before")), None)
+        m = re.match(r"(%s) " % W, e)
+        if m and m.group(1) in starts:
+            inner = place_expr(e[m.end():])
+            if inner is None:
+                return None
+            return (inner[0], starts[m.group(1)], (m.group(1), inner))
+        return None
+
+    count = [0]
+
+    def mark(pe):
+        count[0] += 1
+        k = f"◊{count[0]}◊"
+        alias[k] = pe
+        return k
+
+    def calls(body):
+        # start PATH, inner ones first
+        for _ in range(200):
+            hit = None
+            for s in starts:
+                for m in re.finditer(word(s) + r" (\((?:[^()]|\([^()]*\))*\)|◊\d+◊(?:\.before)*|%s)" % P, body):
+                    pe = place_expr(m.group(0))
+                    if pe is not None and (hit is None or m.start() > hit[0].start()):
+                        hit = (m, pe)
+            if not hit:
+                return body
+            m, pe = hit
+            k = mark(pe)
+            body = body[: m.start()] + k + body[m.end():]
+            body = body.replace(f"({k})", k)
+        return body
+
+    body = calls(body)
+    while True:
+        hit = None
+        for m in re.finditer(r"let (%s) = ((?:[^()=]|\([^()]*\))*?) in(?=\s)[ ]?" % W, body):
+            pe = place_expr(m.group(2))
+            if pe is not None:
+                hit = (m, pe)
+                break
+        if not hit:
+            break
+        m, pe = hit
+        x = m.group(1)
+        rest = body[m.end():]
+        if re.search(r"let %s[ :]" % re.escape(x), rest) or re.search(r"λ \(?%s[ .:]" % re.escape(x), rest):
+            raise Left(f"{x} is bound twice")
+        rest = re.sub(word(x), mark(pe), rest)
+        before = body[: m.start()]
+        if before.split("\n")[-1].strip() == "" and rest.startswith("\n"):
+            rest = rest.lstrip()
+        elif rest.startswith("\n") and before.endswith(" "):
+            before = before.rstrip(" ")
+        body = calls(before + rest)
+    out, i = [], 0
+    keys = "|".join(re.escape(r) for r in sorted(roots, key=len, reverse=True)) or "◊◊"
+    rx = re.compile(r"(?<![^\s(){};,@\"«»\[\]\\])(◊\d+◊|%s)((?:\.(?:%s))*)" % (keys, W))
+    for m in rx.finditer(body):
+        if m.start() < i:
+            continue
+        if m.end() < len(body) and not re.match(r"[\s(){}.;,@\"«»\[\]\\]", body[m.end()]):
+            continue
+        root, place, st = alias[m.group(1)]
+        fields = [f for f in m.group(2).split(".") if f]
+        while fields and fields[0] == "before":
+            place = names.up(place, 1)
+            st = None
+            fields.pop(0)
+        out.append(body[i:m.start()])
+        i = m.end()
+        if not fields:
+            want = None
+            pre = re.sub(r"[(]*$", "", "".join(out)).rstrip()
+            toks = re.findall(r"%s|[(){}]" % W, pre)
+            # the nearest helper before it, within its own call
+            depth, args = 0, 0
+            for tk in reversed(toks[-12:]):
+                if tk in ")}":
+                    depth += 1
+                elif tk in "({":
+                    depth -= 1
+                    if depth < 0:
+                        break
+                elif depth <= 0 and tk in helpers:
+                    want = helpers[tk].get(args, None) or (list(helpers[tk].values())[0] if len(set(helpers[tk].values())) == 1 else None)
+                    break
+                if depth == 0:
+                    args += 1
+            if want is not None:
+                place = want
+            out.append(names.bare(root, roots[root], place, goal))
+            continue
+        f, at = names.field(roots[root], fields[0])
+        if f is None:
+            raise Left(f"no field {fields[0]} at {place} (in {m.group(0)})")
+        rest = fields[1:]
+        typed = names.typed.get(roots[root], {})
+        if rest and rest[0] == "given" and n(fields[0]) in typed and len(rest) == 1:
+            out.append(f"{root}.type_inv.{typed[n(fields[0])]}")
+            continue
+        arm = names.parent.get(at) if at is not None else None
+        if rest[:2] == ["given", "1"] and arm and re.match(r"At-match\d*-keys", arm):
+            f, rest = names.step[arm][1], ["is"] + rest[2:]
+        if rest and rest[0] == "inv":
+            rest = ["invariant"] + rest[1:]
+        if at is not None and len(rest) >= 2 and rest[0] == "new" and names.callee.get(at):
+            ps = names.params.get(names.callee[at])
+            j, q = 1, 0
+            while j < len(rest) and rest[j] == "1":
+                j, q = j + 1, q + 1
+            if ps is not None and j < len(rest) and rest[j] == "0" and q < len(ps):
+                rest = ["new", ps[q]] + rest[j + 1:]
+        fs = names.clauses.get(at) if at is not None else None
+        if fs and rest and rest[0] == "ensures" and not (len(rest) > 1 and rest[1] in fs):
+            if len(fs) == 1:
+                rest = ["ensures", fs[0]] + rest[1:]
+            elif len(rest) > 1 and rest[1].isdigit() and int(rest[1]) < len(fs):
+                rest = ["ensures", fs[int(rest[1])]] + rest[2:]
+        text = ".".join([root, f] + rest)
+        if re.match(r"if-not-", f) and rest in (["true"], ["false"]):
+            text = f"(ap not {text})"
+            names.wants.add("ap not")
+        out.append(text)
+    out.append(body[i:])
+    text = "".join(out)
+    if "◊" in text:
+        raise Left("a place is left over")
+    return text
+
+
+def loop_fields(eq, name, names, key):
+    """An invariant or a measure, whose parameters become fields of l."""
+    m = re.match(re.escape(name) + r" ([^=]*?) =(?=\s)", eq)
+    if not m:
+        raise Left(f"cannot read {name}")
+    params = m.group(1).split()
+    new, vs, ch = names.loops[key]
+    want = []
+    for v, c in zip(vs, ch):
+        want.append(("l.initial." if c == "True" or c is True else "l.") + v)
+    want += ["l." + v for v, c in zip(vs, ch) if c == "True" or c is True]
+    if len(params) != len(want):
+        raise Left(f"{name}: {len(params)} parameters, and {len(want)} wanted: {want}")
+    body = eq[m.end():]
+    if re.search(r"^%s " % re.escape(name), body, re.M):
+        raise Left(f"{name} has two equations")
+    for p, w in zip(params, want):
+        if p == "_":
+            continue
+        # a λ that binds the name again keeps it for its own
+        kept = []
+        def keep(m):
+            kept.append(m.group(0))
+            return f"♦{len(kept) - 1}♦"
+        body = re.sub(r"\(λ \(?%s(?: :[^.]*)?\.(?:[^()]|\([^()]*\))*\)" % re.escape(p), keep, body)
+        if re.search(r"λ [^.]*%s" % word(p), body):
+            raise Left(f"{name}: {p} is bound again")
+        body = re.sub(word(p), "◊" + w[2:], body)
+        body = re.sub(r"♦(\d+)♦", lambda m: kept[int(m.group(1))], body)
+    body = body.replace("◊", "l.")
+    return f"l ={body}"
+
+
+def used(text, uses):
+    """The use lines whose items the text has."""
+    toks = set(re.findall(W, text)) | {x for t in re.findall(W, text) for x in [t]}
+    out = []
+    for u in uses:
+        m = re.match(r"use ([^{]*?)\.\{([^}]*)\}(.*)", u, re.S)
+        if not m:
+            m = re.match(r"use (\S+)(?: as (\S+))?$", u)
+            last = m.group(2) or m.group(1).split(".")[-1]
+            if re.search(word(last) + r"?(?=[.\s])", text) and (last + ".") in text:
+                out.append(u)
+            continue
+        keep = []
+        for it in re.split(r",\s*", m.group(2).strip()):
+            name = it.split(" as ")[-1].strip()
+            if not name:
+                continue
+            if "◌" in name:
+                parts = [p for p in name.split("◌") if p]
+                ok = all(p in toks or p in text for p in parts)
+            else:
+                ok = name in toks or (name == "[]" and "[]" in text)
+            if ok:
+                keep.append(it)
+        if keep:
+            out.append(f"use {m.group(1)}.{{{', '.join(keep)}}}")
+    return out
+
+
+def turn(crate, root, folder, mod, muts):
+    path = os.path.join(folder, "Proof.antt")
+    text = open(path, encoding="utf-8").read()
+    if "tie.close" not in text:
+        raise Left("it is written by hand")
+    names = Names(mod, muts, None)
+    rel = os.path.relpath(folder, os.path.join(root, "crates", crate, "proofs"))
+    modpath = f"Rattle.{crate}.proofs." + rel.replace("/", ".")
+    head, uses, decls = blocks(text)
+    uses = [u for u in uses if not u.rstrip().endswith("Tie as tie") and ".Statement.{statement}" not in u]
+    inv, helpers, answers, notes = [], [], [], []
+    starts = {}
+    loopnames = {}
+    places = []
+    for d in decls:
+        sig, unf, eqs = split_decl(d)
+        ty = re.sub(r"^(?:(?:abbrev|unfoldable|pub) )*%s :\s*" % re.escape(d[1]), "", sig).strip()
+        if "tie.close" in eqs:
+            continue
+        m = re.match(r"tie\.(invariant|decreases)-(\S+)$", ty)
+        if m:
+            key = n(m.group(2))
+            if key not in names.loops:
+                raise Left(f"no loop {m.group(2)}: {list(names.loops)}")
+            new = names.loops[key][0]
+            loopnames[d[1]] = f"{m.group(1)}-{new}"
+            inv.append((d[0], f"{m.group(1)}-{new}", d[1], key, unf, eqs))
+            continue
+        m = re.match(r"tie\.Need-(\S+)", ty)
+        if m:
+            g = names.goal(m.group(1))
+            answers.append((d, m.group(1), g, unf, eqs))
+            continue
+        m = re.match(r"tie\.(\S+)(?: [^→]*)? → tie\.(\S+)", ty)
+        if m and sig.startswith("abbrev"):
+            starts[d[1]] = names.place(m.group(2))
+            continue
+        helpers.append((d, sig, unf, eqs))
+
+    def loops_in(t):
+        for old, new in loopnames.items():
+            t = re.sub(word(old), "goal.the-" + new, t)
+        return t
+
+    def tie_places(t):
+        def one(m):
+            at = names.newplace[names.place(m.group(1))]
+            names.used.add(at)
+            return at
+        return re.sub(r"tie\.(%s)((?: (?:%s))*)(?=\)|\s*→|$)" % (W, "|".join(map(re.escape, loopnames)) or "◊"), one, t)
+
+    # helpers: those over plain values, and those over places
+    plain, placed = [], []
+    hs = {}
+    for d, sig, unf, eqs in helpers:
+        if "tie." in sig:
+            m0 = re.match(r"((?:abbrev |unfoldable |pub )*%s) :" % re.escape(d[1]), sig)
+            hs[d[1]] = place_params(sig[m0.end():], [], names)[2]
+    for d, sig, unf, eqs in helpers:
+        if "tie." in sig:
+            eq = re.match(r"%s ([^=]*?)=" % re.escape(d[1]), eqs)
+            params = eq.group(1).split() if eq else []
+            m0 = re.match(r"((?:abbrev |unfoldable |pub )*%s) :" % re.escape(d[1]), sig)
+            insig, ineq, pos = place_params(sig[m0.end():], params, names)
+            if not ineq:
+                raise Left(f"cannot read the places of {d[1]}")
+            s2 = resolve(sig, insig, names, starts, hs)
+            s2 = tie_places(s2)
+            e2 = resolve(eqs, ineq, names, starts, hs)
+            placed.append((d[0], s2, unf, e2, d[1]))
+        else:
+            plain.append((d[0], sig, unf, eqs, d[1]))
+    invbody = []
+    for com, new, old, key, unf, eqs in inv:
+        kind = new.split("-", 1)[0]
+        invbody.append((com, new, unf, loop_fields(eqs, old, names, key)))
+    text_inv = "\n".join(b for _, _, _, b in invbody)
+    need, grow = set(), True
+    while grow:
+        grow = False
+        for c, s, u, e, nm in plain:
+            if nm not in need and (re.search(word(nm), text_inv) or any(re.search(word(nm), s2 + e2) for c2, s2, u2, e2, n2 in plain if n2 in need)):
+                need.add(nm)
+                grow = True
+    ansbody = []
+    for d, k, g, unf, eqs in answers:
+        m = re.match(r"%s (%s)( κs)? =\s*" % (re.escape(d[1]), W), eqs)
+        if g is None:
+            if n(k) in names.settled or n("overflow_" + k) in names.settled:
+                continue
+            notes.append(f"{rel}: no goal for {k}")
+            continue
+        if not m:
+            raise Left(f"cannot read the answer {d[1]}")
+        body = eqs[m.end():].strip()
+        if body in ("omega arith", "search rules") and not unf:
+            continue
+        root = m.group(1)
+        rest = resolve(eqs[m.end():], {root: names.need_place[g]}, names, starts, hs, g)
+        if loopnames:
+            rest = loops_in(rest)
+        lead = eqs[: m.end()]
+        sep = "\n" if "\n" in lead else " "
+        gap = lead[lead.rindex("=") + 1:]
+        ansbody.append((d[0], g, unf, f"{g} {root} ={gap}{rest}"))
+    # write
+    out_inv = ""
+    if invbody:
+        b = ""
+        for c, s, u, e, nm in plain:
+            if nm in need:
+                s = s if re.match(r"(abbrev |unfoldable )*pub ", s) else re.sub(r"^(abbrev |unfoldable )?", lambda m: m.group(0) + "pub ", s)
+                b += "\n" + "".join(x + "\n" for x in c) + s + "\n" + "".join(x + "\n" for x in u) + e + "\n"
+        for c, new, u, e in invbody:
+            b += "\n" + "".join(x + "\n" for x in c) + f"abbrev pub {new} : goal.{new}\n" + "".join(x + "\n" for x in u) + f"{new} {e}\n"
+        us = used(b, uses) + [f"use {modpath}.Given as goal"]
+        out_inv = "".join(h + "\n" for h in head) + "\n".join(us) + "\n" + b
+    out_ans = ""
+    if ansbody:
+        b = ""
+        for c, s, u, e, nm in plain:
+            if nm not in need:
+                b += "\n" + "".join(x + "\n" for x in c) + s + "\n" + "".join(x + "\n" for x in u) + e + "\n"
+        for c, s, u, e, nm in placed:
+            b += "\n" + "".join(x + "\n" for x in c) + s + "\n" + "".join(x + "\n" for x in u) + e + "\n"
+        for c, g, u, e in ansbody:
+            b += "\n" + "".join(x + "\n" for x in c) + f"pub {g} : goal.{g}\n" + "".join(x + "\n" for x in u) + e + "\n"
+        us = used(b, uses)
+        if names.wants:
+            have = "\n".join(us)
+            for it, mod2 in (("ap", "mathlib.Core.Path"), ("not", "mathlib.Core.Bool")):
+                if not re.search(r"[{ ]%s[,}]" % it, have):
+                    us.insert(0, f"use {mod2}.{{{it}}}")
+        if need:
+            have = [nm for nm in sorted(need) if re.search(word(nm), b)]
+            if have:
+                us.append(f"use {modpath}.Invariants.{{{', '.join(have)}}}")
+        us.append(f"use {modpath}.Goals as goal")
+        if names.used:
+            us.append(f"use {modpath}.Goals.{{{', '.join(sorted(names.used))}}}")
+        if "tie." in b:
+            us.append(f"use {modpath}.Tie as tie")
+        out_ans = ("".join(h + "\n" for h in head) if not invbody else "") + "\n".join(us) + "\n" + b
+    if out_inv:
+        open(os.path.join(folder, "Invariants.antt"), "w", encoding="utf-8").write(out_inv)
+    if out_ans:
+        open(os.path.join(folder, "Answers.antt"), "w", encoding="utf-8").write(out_ans)
+    os.remove(path)
+    if not out_inv and not out_ans:
+        os.rmdir(folder) if not os.listdir(folder) else None
+    return notes
+
+
+def main(argv):
+    where, names = os.path.abspath(argv[0]), json.load(open(argv[1], encoding="utf-8"))
+    only = argv[2:]
+    crate = os.path.basename(where)
+    root = os.path.dirname(os.path.dirname(where))
+    muts = mutable_params(root)
+    mods = {}
+    for k, v in names.items():
+        m = re.match(r"Rattle-\w+-proofs\.(.*)\.Lts$", k)
+        if m:
+            mods[m.group(1)] = v
+    done = 0
+    for p in sorted(glob.glob(os.path.join(where, "proofs", "**", "Proof.antt"), recursive=True)):
+        folder = os.path.dirname(p)
+        f = os.path.relpath(folder, os.path.join(where, "proofs")).replace("/", ".")
+        if only and f not in only:
+            continue
+        if f not in mods:
+            print(f"left: {f}: no names for it")
+            continue
+        try:
+            for note in turn(crate, root, folder, mods[f], muts):
+                print("look:", note)
+            done += 1
+        except Left as e:
+            print(f"left: {f}: {e}")
+    print(f"turned {done}")
+
+
+main(sys.argv[1:])
