@@ -54,6 +54,7 @@ class Names:
             self.needs.setdefault(n(a), b)
             self.needs_new.setdefault(n(b), b)
             self.need_place[b] = pa
+        self.ends = {pa for (a, b), (pa, pb) in zip(mod["needs"], mod["asked_at"]) if b.startswith("returns")}
         self.settled = {n(s) for s in mod["settled"]}
         self.parent, self.step, self.newplace, self.callee = {}, {}, {}, {}
         for (name, parent, st, callee, *_), nn in zip(mod["places"], mod["places_by_name"]):
@@ -117,12 +118,13 @@ class Names:
             return field.replace("-", "_") if f != "requires" else field, None
         if f == "pre":
             return "requires", None
-        p = place
-        while p is not None:
-            st = self.step[p]
-            if st and (n(st[0]) == f or n(st[1]) == f):
-                return st[1], p
-            p = self.parent[p]
+        for k in (0, 1):
+            p = place
+            while p is not None:
+                st = self.step[p]
+                if st and n(st[k]) == f:
+                    return st[1], p
+                p = self.parent[p]
         return None, None
 
 
@@ -403,6 +405,177 @@ def resolve(body, roots, names, starts, helpers, goal=None):
     return text
 
 
+def balanced(text, i):
+    """The end of the bracket that opens at i."""
+    d = 0
+    for j in range(i, len(text)):
+        d += (text[j] in "([{") - (text[j] in ")]}")
+        if d == 0:
+            return j + 1
+    raise Left("a bracket stays open")
+
+
+def leaves(names, step):
+    """The branches of a join: each one's name, its places, by their sides."""
+    join = [p for p in names.parent if names.step[p] and names.step[p][1] == step and p.startswith(("Joined", "At-match")) and ("branch" in p or p.startswith("Joined")) and "unread" not in p]
+    if not join:
+        raise Left(f"no join {step}")
+    top = names.parent[join[0]]
+    kids = lambda p: [q for q in names.parent if names.parent[q] == p and "unread" not in q and q not in join and not q.startswith(("Joined", "At-loop", "In-loop", "After-loop")) and not q.endswith("-branch")]
+    old = names.step[join[0]][0]
+    low = lambda s: s[0].lower() + s[1:]
+    out = []
+
+    ends = names.ends
+
+    def walk(p, chain, arms):
+        """The ways on from a place that come to the join, as a tree of lists."""
+        chain = chain + [p]
+        if re.match(r"(Then|Else|At-match)", p):
+            arms = arms + [low(names.newplace[p])]
+        ks = kids(p)
+        tests = [q for q in ks if re.match(r"(Then|Else|At-match)", q)]
+        if len(tests) >= 2:
+            got = [w for w in (walk(q, chain, arms) for q in tests) if w]
+            return got[0] if len(got) == 1 else got
+        if len(ks) >= 1:
+            return walk(ks[-1], chain, arms)
+        return None if p in ends else ("+".join(arms), chain)
+
+    def flat(w, side):
+        if isinstance(w, tuple):
+            out.append((side, w[0], w[1]))
+        elif w:
+            for k, x in enumerate(w):
+                flat(x, side + ([0] if k == 0 else [1]) if len(w) == 2 else side + [1] * k + ([0] if k < len(w) - 1 else []))
+
+    starts = [w for w in (walk(q, [], []) for q in kids(top) if names.step[q] and names.step[q][0] == old) if w]
+    flat(starts, [])
+    told = lambda p: re.match(r"After-(way|enum|known)_told", p)
+    return [(s, a, [p for p in ch if not told(p)]) for s, a, ch in out]
+
+
+def turn_branches(text, names):
+    """`⊎_elim (λ w. a) (λ w. b) c.S.branch` and `elim c.S.branch [ inl w ↦ a | inr w ↦ b ]` by the names of the branches."""
+
+    def facts(body, w, chain, vars_):
+        def one(m):
+            k = int(m.group(1))
+            rest = [f for f in m.group(2).split(".") if f]
+            if k >= len(chain):
+                if k - len(chain) >= len(vars_):
+                    return ".".join([w, "VARIABLE-is"] + rest)
+                return ".".join([w, vars_[k - len(chain)] + "-is"] + rest)
+            place = chain[k]
+            f = names.step[place][1]
+            if rest[:1] == ["taken"]:
+                rest[0] = "true"
+            elif rest[:1] == ["left"]:
+                rest[0] = "false"
+            elif rest[:2] == ["given", "1"]:
+                arm = names.parent[place]
+                if arm and re.match(r"At-match\d*-keys", arm):
+                    f = names.step[arm][1]
+                rest = ["is"] + rest[2:]
+            if len(rest) >= 2 and rest[0] == "new" and names.callee.get(place):
+                ps = names.params.get(names.callee[place])
+                j, q = 1, 0
+                while j < len(rest) and rest[j] == "1":
+                    j, q = j + 1, q + 1
+                if ps is not None and j < len(rest) and rest[j] == "0" and q < len(ps):
+                    rest = ["new", ps[q]] + rest[j + 1:]
+            out = ".".join([w, f] + rest)
+            if f.startswith("if-not-") and rest in (["true"], ["false"]):
+                names.wants.add("ap not")
+                out = f"(ap not {out})"
+            return out
+        return re.sub(r"(?<![^\s(){};,])%s\.(\d+)((?:\.[\w-]+)*)" % re.escape(w), one, body)
+
+    def variables(step):
+        seen = []
+        for v in re.findall(re.escape(step) + r"\.([\w]+)", text):
+            if v != "branch" and v not in seen:
+                seen.append(v)
+        order = {v: k for _, vs, _ in names.loops.values() for k, v in enumerate(vs)}
+        return sorted(seen, key=lambda v: order[v]) if all(v in order for v in seen) else seen
+
+    for _ in range(20):
+        m = re.search(r"⊎_elim\s+\(", text)
+        if not m:
+            break
+        a0 = m.end() - 1
+        a1 = balanced(text, a0)
+        gap = re.match(r"\s*", text[a1:]).end()
+        b0 = a1 + gap
+        if text[b0] != "(":
+            raise Left("a ⊎_elim of another shape")
+        b1 = balanced(text, b0)
+        c = re.match(r"\s*\(?([\w-]+)\.([^\s.()]+)\.branch\)?", text[b1:])
+        if not c:
+            raise Left("a ⊎_elim over something else")
+        step = c.group(2)
+        ls = leaves(names, step)
+        sides = [text[a0 + 1:a1 - 1], text[b0 + 1:b1 - 1]]
+        arms = []
+
+        def arms_of(side, src):
+            f = re.match(r"λ (\w+)\. ?", src)
+            if f:
+                hit = [l for l in ls if l[0] == side]
+                if len(hit) != 1:
+                    raise Left(f"branches {ls}, and {side} wanted")
+                _, name, chain = hit[0]
+                names.used.add(name)
+                arms.append((name, f.group(1), facts(src[f.end():], f.group(1), chain, variables(f"{c.group(1)}.{step}"))))
+                return
+            f = re.match(r"⊎_elim\s+\(", src)
+            if f:
+                x1 = balanced(src, f.end() - 1)
+                y0 = x1 + re.match(r"\s*", src[x1:]).end()
+                y1 = balanced(src, y0)
+                arms_of(side + [0], src[f.end():x1 - 1])
+                arms_of(side + [1], src[y0 + 1:y1 - 1])
+                return
+            raise Left(f"a branch that is no λ: {src[:40]}")
+
+        arms_of([0], sides[0])
+        arms_of([1], sides[1])
+        new = f"elim {c.group(1)}.{step}.branch [ " + " | ".join(f"{nm} {w} ↦ {b}" for nm, w, b in arms) + " ]"
+        if len(new) > 120:
+            line = text[:m.start()].split("\n")[-1]
+            ind = " " * (len(line) - len(line.lstrip()) + 2)
+            new = f"elim {c.group(1)}.{step}.branch [\n" + "".join(f"{ind}| {nm} {w} ↦ {b}\n" for nm, w, b in arms) + ind[2:] + "]"
+        pre = text[:m.start()]
+        end = b1 + c.end()
+        tail = text[end:]
+        if c.group(0).rstrip().endswith(")") and "(" not in c.group(0):
+            tail = ")" + tail
+        atomic = pre.rstrip().endswith(("(", "=", ",", "in", "↦"))
+        text = pre + (new if atomic else f"({new})") + tail
+    for m in list(re.finditer(r"elim ([\w-]+)\.([^\s.()]+)\.branch \[", text))[::-1]:
+        e = balanced(text, m.end() - 1)
+        inner = text[m.end():e - 1]
+        if not re.match(r"\s*\|?\s*\(?in[lr]\s", inner):
+            continue
+        ls = leaves(names, m.group(2))
+        vs = variables(f"{m.group(1)}.{m.group(2)}")
+        parts = []
+        heads = list(re.finditer(r"(\|\s*|\A\s*)((?:\(?in[lr]\s+)+)(\w+)\)*\s*↦", inner))
+        res, last = "", 0
+        for k, h in enumerate(heads):
+            side = [0 if x == "inl" else 1 for x in re.findall(r"in[lr]", h.group(2))]
+            hit = [l for l in ls if l[0] == side]
+            if len(hit) != 1:
+                raise Left(f"branches {ls}, and {side} wanted")
+            _, name, chain = hit[0]
+            names.used.add(name)
+            stop = heads[k + 1].start() if k + 1 < len(heads) else len(inner)
+            res += inner[last:h.start()] + (h.group(1) or "") + f"{name} {h.group(3)} ↦" + facts(inner[h.end():stop], h.group(3), chain, vs)
+            last = stop
+        text = text[:m.end()] + res + text[e - 1:]
+    return text
+
+
 def loop_fields(eq, name, names, key):
     """An invariant or a measure, whose parameters become fields of l."""
     m = re.match(re.escape(name) + r" ([^=]*?) =(?=\s)", eq)
@@ -533,7 +706,7 @@ def turn(crate, root, folder, mod, muts):
                 raise Left(f"cannot read the places of {d[1]}")
             s2 = resolve(sig, insig, names, starts, hs)
             s2 = tie_places(s2)
-            e2 = resolve(eqs, ineq, names, starts, hs)
+            e2 = turn_branches(resolve(eqs, ineq, names, starts, hs), names)
             placed.append((d[0], s2, unf, e2, d[1]))
         else:
             plain.append((d[0], sig, unf, eqs, d[1]))
@@ -551,7 +724,7 @@ def turn(crate, root, folder, mod, muts):
                 grow = True
     ansbody = []
     for d, k, g, unf, eqs in answers:
-        m = re.match(r"%s (%s)( κs)? =\s*" % (re.escape(d[1]), W), eqs)
+        m = re.match(r"%s (%s)( κs)?((?: %s)*?) =\s*" % (re.escape(d[1]), W, W), eqs)
         if g is None:
             if n(k) in names.settled or n("overflow_" + k) in names.settled:
                 continue
@@ -566,10 +739,14 @@ def turn(crate, root, folder, mod, muts):
         rest = resolve(eqs[m.end():], {root: names.need_place[g]}, names, starts, hs, g)
         if loopnames:
             rest = loops_in(rest)
+        rest = turn_branches(rest, names)
         lead = eqs[: m.end()]
         sep = "\n" if "\n" in lead else " "
         gap = lead[lead.rindex("=") + 1:]
-        ansbody.append((d[0], g, unf, f"{g} {root} ={gap}{rest}"))
+        ansbody.append((d[0], g, unf, f"{g} {root}{m.group(3)} ={gap}{rest}"))
+    # A file may have the name `goal` for a module of its own.
+    goal = "asked" if any(re.search(r" as goal$", u) for u in uses) else "goal"
+    ours = lambda t: re.sub(r"\bgoal\.(?=the-|at\.)", goal + ".", t)
     # write
     out_inv = ""
     if invbody:
@@ -579,8 +756,8 @@ def turn(crate, root, folder, mod, muts):
                 s = s if re.match(r"(abbrev |unfoldable )*pub ", s) else re.sub(r"^(abbrev |unfoldable )?", lambda m: m.group(0) + "pub ", s)
                 b += "\n" + "".join(x + "\n" for x in c) + s + "\n" + "".join(x + "\n" for x in u) + e + "\n"
         for c, new, u, e in invbody:
-            b += "\n" + "".join(x + "\n" for x in c) + f"abbrev pub {new} : goal.{new}\n" + "".join(x + "\n" for x in u) + f"{new} {e}\n"
-        us = used(b, uses) + [f"use {modpath}.Given as goal"]
+            b += "\n" + "".join(x + "\n" for x in c) + f"abbrev pub {new} : {goal}.{new}\n" + "".join(x + "\n" for x in u) + f"{new} {e}\n"
+        us = used(b, uses) + [f"use {modpath}.Given as {goal}"]
         out_inv = "".join(h + "\n" for h in head) + "\n".join(us) + "\n" + b
     out_ans = ""
     if ansbody:
@@ -589,9 +766,9 @@ def turn(crate, root, folder, mod, muts):
             if nm not in need:
                 b += "\n" + "".join(x + "\n" for x in c) + s + "\n" + "".join(x + "\n" for x in u) + e + "\n"
         for c, s, u, e, nm in placed:
-            b += "\n" + "".join(x + "\n" for x in c) + s + "\n" + "".join(x + "\n" for x in u) + e + "\n"
+            b += "\n" + "".join(x + "\n" for x in c) + ours(s) + "\n" + "".join(x + "\n" for x in u) + ours(e) + "\n"
         for c, g, u, e in ansbody:
-            b += "\n" + "".join(x + "\n" for x in c) + f"pub {g} : goal.{g}\n" + "".join(x + "\n" for x in u) + e + "\n"
+            b += "\n" + "".join(x + "\n" for x in c) + f"pub {g} : {goal}.{g}\n" + "".join(x + "\n" for x in u) + ours(e) + "\n"
         us = used(b, uses)
         if names.wants:
             have = "\n".join(us)
@@ -602,7 +779,7 @@ def turn(crate, root, folder, mod, muts):
             have = [nm for nm in sorted(need) if re.search(word(nm), b)]
             if have:
                 us.append(f"use {modpath}.Invariants.{{{', '.join(have)}}}")
-        us.append(f"use {modpath}.Goals as goal")
+        us.append(f"use {modpath}.Goals as {goal}")
         if names.used:
             us.append(f"use {modpath}.Goals.{{{', '.join(sorted(names.used))}}}")
         if "tie." in b:

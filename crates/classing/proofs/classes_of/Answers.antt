@@ -1,5 +1,4 @@
 use mathlib.Core.Path.{◌≡◌, sym, ◌∙◌}
-use mathlib.Core.Logic.{⊎_elim}
 use mathlib.Core.List.{List}
 use Prim.Native.Nat.{◌+◌, ◌-◌, ◌≤◌, ◌<◌}
 use native.Mathlib.Omega.{arith}
@@ -11,8 +10,8 @@ use Rattle.paper.proofs.Counts.{count_le}
 use Rattle.paper.proofs.Filled.{fill_more}
 use Rattle.strings.proofs.Classes.{class_below, classes_most, spare_le}
 use Rattle.strings.proofs.Marked.{Marked, class_takes, class_skips, class_count}
-use Rattle.classing.proofs.classes_of.Goals as goal
-use Rattle.classing.proofs.classes_of.Goals.{In-loop-x, Joined-used-x}
+use Rattle.classing.proofs.classes_of.Goals as asked
+use Rattle.classing.proofs.classes_of.Goals.{In-loop-x, Joined-used-x, else-used-x, then-used-x}
 
 -- The class is that of the byte, and k goes on.
 turn : (c : Joined-used-x) →
@@ -21,10 +20,10 @@ turn : (c : Joined-used-x) →
 turn c rs M e =
     let h = c.loop-x-test.true in
     let q = (c.loop-x.invariant.2 rs M e).0 in
-    ⊎_elim
-    (λ w. let (p, r) = class_takes rs c.loop-x.x c.loop-x.k (sym (M c.loop-x.x h) ∙ w.0.taken) q in (w.2 ∙ p, w.1 ∙ r))
-    (λ w. let (p, r) = class_skips rs c.loop-x.x c.loop-x.k (sym (M c.loop-x.x h) ∙ w.0.left) q in (w.2 ∙ p, w.1 ∙ r))
-    c.if-used-x.branch
+    elim c.if-used-x.branch [
+      | then-used-x w ↦ let (p, r) = class_takes rs c.loop-x.x c.loop-x.k (sym (M c.loop-x.x h) ∙ w.if-used-x.true) q in (w.VARIABLE-is ∙ p, w.VARIABLE-is ∙ r)
+      | else-used-x w ↦ let (p, r) = class_skips rs c.loop-x.x c.loop-x.k (sym (M c.loop-x.x h) ∙ w.if-used-x.false) q in (w.VARIABLE-is ∙ p, w.VARIABLE-is ∙ r)
+    ]
 
 -- It is below 256.
 small : (c : Joined-used-x) → c.if-used-x.class < 256
@@ -38,26 +37,26 @@ few c =
     let (rs, M, e) = c.requires.1 in
     omega (arith, (c.loop-x.invariant.2 rs M e).0, spare_le rs, count_le c.loop-x.x (goal.used rs))
 
-pub loop-x-init : goal.loop-x-init
+pub loop-x-init : asked.loop-x-init
 loop-x-init c =
     (omega arith, c.requires.0, λ rs M e. (e ∙ omega arith, λ q h. absurd (omega arith)))
 
-pub overflow_add-k : goal.overflow_add-k
-overflow_add-k c = omega (arith, few (goal.at.overflow_add-k c).In-loop-x)
+pub overflow_add-k : asked.overflow_add-k
+overflow_add-k c = omega (arith, few (asked.at.overflow_add-k c).In-loop-x)
 
-pub overflow_cast-classes : goal.overflow_cast-classes
-overflow_cast-classes c = omega (arith, small (goal.at.overflow_cast-classes c).Joined-used-x)
+pub overflow_cast-classes : asked.overflow_cast-classes
+overflow_cast-classes c = omega (arith, small (asked.at.overflow_cast-classes c).Joined-used-x)
 
-pub loop-x-preserved : goal.loop-x-preserved
+pub loop-x-preserved : asked.loop-x-preserved
 loop-x-preserved c =
     let h = c.loop-x-test.true in (
       omega arith,
       length-set c.loop-x.classes c.loop-x.x c.if-used-x.class ∙ c.loop-x.invariant.1,
       λ rs M e.
-          ((turn (goal.at.loop-x-preserved c).Joined-used-x rs M e).1, fill_more (goal.class_of rs) c.loop-x.classes c.loop-x.x c.if-used-x.class (omega (arith, h, c.loop-x.invariant.1)) (turn (goal.at.loop-x-preserved c).Joined-used-x rs M e).0 (c.loop-x.invariant.2 rs M e).1),
+          ((turn (asked.at.loop-x-preserved c).Joined-used-x rs M e).1, fill_more (goal.class_of rs) c.loop-x.classes c.loop-x.x c.if-used-x.class (omega (arith, h, c.loop-x.invariant.1)) (turn (asked.at.loop-x-preserved c).Joined-used-x rs M e).0 (c.loop-x.invariant.2 rs M e).1),
     )
 
-pub returns : goal.returns
+pub returns : asked.returns
 returns c =
     let q : c.loop-x.x ≡ 256 = omega arith in
     (c.loop-x.invariant.1, λ rs M e. let (p, C) = c.loop-x.invariant.2 rs M e in (class_count rs c.loop-x.x c.loop-x.k q p, rw q at C))

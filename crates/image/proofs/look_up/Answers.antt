@@ -11,7 +11,7 @@ use Rattle.image.proofs.Cases.{record_default}
 use Rattle.image.proofs.Accepted.{accepted_laid, part_row, record_in_lem, step_of_part}
 use Rattle.image.proofs.Way.{Onward, way_start, way_answered, way_sent}
 use Rattle.image.proofs.look_up.Goals as goal
-use Rattle.image.proofs.look_up.Goals.{After-stored_in, At-loop-t, Joined-fallback}
+use Rattle.image.proofs.look_up.Goals.{in-FallsTo, in-Root, After-stored_in, At-loop-t, Joined-fallback}
 
 -- The step over the part is the state's.
 step_here : (c : After-stored_in)
@@ -33,7 +33,7 @@ onward c =
     way_sent (image_view c.args.image.now) A.right A.few_states c.args.state c.args.class c.requires.1 c.requires.2 c.loop-t.s c.loop-t.hops c.loop-t.invariant
     c.stored_in.result (step_here (goal.at.Joined-fallback c).After-stored_in) c.in-Nothing.is
     r.fallback (record_default c.args.image.now c.loop-t.s r (rw (← c.requires.0.records_is) c.record_at-record.ensures)) c.match-fallback.s
-    (⊎_elim (λ w. inl (rw w.3 w.1.given.1)) (λ w. inr w.1.given.1) c.match-fallback.branch)
+    (elim c.match-fallback.branch [ in-FallsTo w ↦ inl (rw w.s-is w.in-FallsTo.is) | in-Root w ↦ inr w.in-Root.is ])
 
 pub loop-t-init : goal.loop-t-init
 loop-t-init c = let A = c.requires.0.accepted in way_start (image_view c.args.image.now) A.right A.few_states c.args.state c.args.class c.requires.1 c.requires.2

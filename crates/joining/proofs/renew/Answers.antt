@@ -1,13 +1,12 @@
 use Prim.Native.Nat.{◌+◌, ◌<◌, ◌-◌}
 use mathlib.Core.Path.{◌≡◌}
-use mathlib.Core.Logic.{inl, inr}
 use native.Mathlib.Omega.{arith}
 use borrow.Author.Rules.{rules}
 use lib.ListN.{length, length-set}
 use Rattle.joining.specs.Held.{Renewed}
 use Rattle.joining.proofs.Renewed.{renewed_starts, renewed_first, renewed_second, renewed_other}
 use Rattle.joining.proofs.renew.Goals as goal
-use Rattle.joining.proofs.renew.Goals.{Joined-t-tu}
+use Rattle.joining.proofs.renew.Goals.{Joined-t-tu, else-t-tu+else-t-tv, else-t-tu+then-t-tv, then-t-tu}
 
 -- Where the ways of the tests meet, one state more is renewed.
 met : (c : Joined-t-tu) →
@@ -19,17 +18,17 @@ met c =
     let xb : l.x < a.n = omega arith in
     let long : l.x < length l.d = omega (arith, c.requires) in
     elim c.if-t-tu.branch [
-      | inr (inr w) ↦ rw w.2 (
+      | else-t-tu+else-t-tv w ↦ rw w.VARIABLE-is (
         l.invariant.1,
-        renewed_other a.n a.u a.v c.requires.1 c.requires.2 a.d0 a.parent.now a.tree.now l.d l.x xb l.invariant.2 w.0.left w.1.left,
+        renewed_other a.n a.u a.v c.requires.1 c.requires.2 a.d0 a.parent.now a.tree.now l.d l.x xb l.invariant.2 w.if-t-tu.false w.if-t-tv.false,
       )
-      | inr (inl w) ↦ rw w.3 (
+      | else-t-tu+then-t-tv w ↦ rw w.VARIABLE-is (
         simp length-set l.invariant.1,
-        renewed_second a.n a.u a.v c.requires.1 c.requires.2 a.d0 a.parent.now a.tree.now l.d l.x xb l.invariant.2 w.2.result long w.1.taken w.2.ensures,
+        renewed_second a.n a.u a.v c.requires.1 c.requires.2 a.d0 a.parent.now a.tree.now l.d l.x xb l.invariant.2 w.farther-e-then-t-tv.result long w.if-t-tv.true w.farther-e-then-t-tv.ensures,
       )
-      | inl w ↦ rw w.2 (
+      | then-t-tu w ↦ rw w.VARIABLE-is (
         simp length-set l.invariant.1,
-        renewed_first a.n a.u a.v c.requires.1 c.requires.2 a.d0 a.parent.now a.tree.now l.d l.x xb l.invariant.2 w.1.result long w.0.taken w.1.ensures,
+        renewed_first a.n a.u a.v c.requires.1 c.requires.2 a.d0 a.parent.now a.tree.now l.d l.x xb l.invariant.2 w.farther-e.result long w.if-t-tu.true w.farther-e.ensures,
       )
     ]
 

@@ -1,5 +1,4 @@
 use mathlib.Core.Path.{refl, subst}
-use mathlib.Core.Logic.{⊎_elim}
 use Prim.Native.Nat.{ℕ, ◌-◌, ◌<◌}
 use native.Mathlib.Omega.{arith}
 use Rattle.paper.specs.Labels.{edition_of}
@@ -10,7 +9,7 @@ use Rattle.labels.specs.Tags.{Firsts}
 use Rattle.reduction.proofs.FirstNames.{first_named}
 use Rattle.naming.proofs.Heads.{heads_none}
 use Rattle.naming.proofs.first_names.Goals as goal
-use Rattle.naming.proofs.first_names.Goals.{After-firsts_of-firsts, In-loop-x}
+use Rattle.naming.proofs.first_names.Goals.{After-firsts_of-firsts, In-loop-x, else-p-x, then-p-x}
 
 -- The array has the first label of each state.
 firsts_are : (c : After-firsts_of-firsts) →
@@ -59,7 +58,10 @@ loop-x-preserved c =
     let E = c.name_of-p.ensures in (
       fills_more c.loop-x.invariant.0 (inside (goal.at.loop-x-preserved c).In-loop-x).1 E.0,
       E.1.0,
-      ⊎_elim (λ w. rw w.1 (E.1.1 w.0.taken)) (λ w. rw w.1 (E.1.2 w.0.left)) c.if-p-x.branch,
+      elim c.if-p-x.branch [
+        | then-p-x w ↦ rw w.m-is (E.1.1 w.if-p-x.true)
+        | else-p-x w ↦ rw w.m-is (E.1.2 w.if-p-x.false)
+      ],
     )
 
 pub returns : goal.returns

@@ -1,11 +1,11 @@
 use Prim.Native.Nat.{◌+◌, ◌-◌}
 use mathlib.Core.Path.{◌≡◌}
-use mathlib.Core.Logic.{⊎_elim}
 use native.Mathlib.Omega.{arith}
 use Rattle.strings.proofs.LevelTurn.{turn_level}
 use Rattle.strings.proofs.Spread.{spread}
 use Rattle.rows.proofs.Level.{After, level_asks, after_filled, after_passed}
 use Rattle.rows.proofs.fill_level.Goals as goal
+use Rattle.rows.proofs.fill_level.Goals.{else-long-s, then-long-s}
 
 -- src/lib.rt:69:5
 pub loop-s-init : goal.loop-s-init
@@ -70,12 +70,12 @@ loop-s-preserved c =
     let m = a.long.now in
     let k = a.classes.now in
     let A : After p b m a.n k a.rows.now a.links.now l.rows l.links l.linked a.level l.s = (l.invariant.1, l.invariant.2, l.invariant.3, l.invariant.4) in
-    let r : After p b m a.n k a.rows.now a.links.now c.if-long-s.rows c.if-long-s.links c.if-long-s.linked a.level (l.s + 1) = ⊎_elim
-    (λ w. after_filled p b m a.n k a.k c.requires.4 c.requires.5 a.rows.now a.links.now l.rows l.links l.linked a.level l.s (omega arith) c.requires.3 A
-    c.if-long-s.rows c.if-long-s.links c.if-long-s.linked w.0.taken w.2.ensures w.4.ensures.0 w.6.ensures.0 w.11 w.12 w.13 w.10.ensures)
-    (λ w. after_passed p b m a.n k a.k c.requires.4 c.requires.5 a.rows.now a.links.now l.rows l.links l.linked a.level l.s (omega arith) c.requires.3 A
-    c.if-long-s.rows c.if-long-s.links c.if-long-s.linked w.0.left w.1 w.2 w.3)
-    c.if-long-s.branch in
+    let r : After p b m a.n k a.rows.now a.links.now c.if-long-s.rows c.if-long-s.links c.if-long-s.linked a.level (l.s + 1) = elim c.if-long-s.branch [
+      | then-long-s w ↦ after_filled p b m a.n k a.k c.requires.4 c.requires.5 a.rows.now a.links.now l.rows l.links l.linked a.level l.s (omega arith) c.requires.3 A
+    c.if-long-s.rows c.if-long-s.links c.if-long-s.linked w.if-long-s.true w.wide-p.ensures w.wide_byte.ensures.0 w.wide_byte-a.ensures.0 w.rows-is w.links-is w.linked-is w.fill_state.ensures
+      | else-long-s w ↦ after_passed p b m a.n k a.k c.requires.4 c.requires.5 a.rows.now a.links.now l.rows l.links l.linked a.level l.s (omega arith) c.requires.3 A
+    c.if-long-s.rows c.if-long-s.links c.if-long-s.linked w.if-long-s.false w.rows-is w.links-is w.linked-is
+    ] in
     (omega arith, r.0, r.1, r.2, r.3)
 
 -- src/lib.rt:62:1

@@ -1,9 +1,10 @@
 use mathlib.Core.Path.{◌≡◌, refl}
-use mathlib.Core.Logic.{inl, inr, ⊎_elim}
+use mathlib.Core.Logic.{inl, inr}
 use Prim.Native.Nat.{◌-◌}
 use native.Mathlib.Omega.{arith}
 use Rattle.tally.proofs.Counting.{counted}
 use Rattle.tally.proofs.count_of.Goals as goal
+use Rattle.tally.proofs.count_of.Goals.{else-keeps, then-keeps}
 
 pub loop-c-init : goal.loop-c-init
 loop-c-init c = (omega arith, refl, omega arith)
@@ -18,7 +19,10 @@ pub loop-c-preserved : goal.loop-c-preserved
 loop-c-preserved c =
     let a = c.args in
     counted a.t.now a.k a.s a.d c.loop-c.c c.loop-c.count c.if-keeps.count c.keeps.result c.loop-c.invariant c.loop-c-test.true c.keeps.ensures
-    (⊎_elim (λ w. inl (w.0.taken, w.1)) (λ w. inr (w.0.left, w.1)) c.if-keeps.branch)
+    (elim c.if-keeps.branch [
+      | then-keeps w ↦ inl (w.if-keeps.true, w.count-is)
+      | else-keeps w ↦ inr (w.if-keeps.false, w.count-is)
+    ])
 
 pub returns : goal.returns
 returns c =

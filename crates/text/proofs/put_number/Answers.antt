@@ -8,7 +8,7 @@ use Rattle.text.proofs.put_number.Goals.{After-decimal-count}
 
 -- What stands before the count is the number in decimal.
 spelt : (c : After-decimal-count) → take c.decimal-count.result c.decimal-count.new.out ≡ decimal c.args.number
-spelt c = c.decimal-count.ensures.len.1 ∙ spelt_decimal c.args.number c.decimal-count.result c.decimal-count.ensures.len.0
+spelt c = c.decimal-count.ensures.digits ∙ spelt_decimal c.args.number c.decimal-count.result c.decimal-count.ensures.len
 
 pub put-requires : goal.put-requires
 put-requires c = rw (spelt (goal.at.put-requires c).After-decimal-count) c.requires

@@ -1,5 +1,4 @@
 use Prim.Native.Nat.{ℕ, ◌+◌, ◌*◌, ◌/◌, ◌-◌, ◌≤◌, ◌<◌}
-use mathlib.Core.Logic.{⊎_elim}
 use mathlib.Core.List.{List}
 use mathlib.Core.Path.{◌≡◌, refl, ap, sym, ◌∙◌}
 use native.Mathlib.Omega.{arith}
@@ -18,7 +17,7 @@ use Rattle.running.proofs.GoesOn.{going_full, going_quiet, going_loud}
 use Rattle.walk.proofs.Plain as plain
 use Rattle.walk.proofs.Plain.{class_in, byte_reached, tag_in}
 use Rattle.walk.proofs.walk_accepted.Goals as goal
-use Rattle.walk.proofs.walk_accepted.Goals.{After-get16-tag, After-next_state-next, After-wide, After-wide-class, At-loop-i}
+use Rattle.walk.proofs.walk_accepted.Goals.{After-get16-tag, After-next_state-next, After-wide, After-wide-class, At-loop-i, else-tag-ne0, then-tag-ne0+else-most-reports}
 
 -- The table.
 abbrev bytes : At-loop-i → List ℕ
@@ -159,12 +158,12 @@ pub loop-i-preserved : goal.loop-i-preserved
 loop-i-preserved c =
     let h = c.loop-i-test.true in
     let to = c.next_state-next.result in
-    ⊎_elim
-    (λ w. going_loud c.loop-i.invariant h (reported (goal.at.loop-i-preserved c).After-get16-tag) (labels_are (goal.at.loop-i-preserved c).After-get16-tag) (reached (goal.at.loop-i-preserved c).After-wide-class) to c.if-tag-ne0.reports 0 (next_is (goal.at.loop-i-preserved c).After-next_state-next) refl
-    (labels_few (goal.at.loop-i-preserved c).After-get16-tag) (omega (arith, w.2.left, w.1.ensures, size_is (goal.at.loop-i-preserved c).After-get16-tag)) (capacity (goal.at.loop-i-preserved c).At-loop-i) c.if-tag-ne0.room (w.7 ∙ w.4.ensures) (omega (arith, w.8, w.1.ensures, size_is (goal.at.loop-i-preserved c).After-get16-tag)))
-    (λ w. rw w.1 (going_quiet c.loop-i.invariant h (reported (goal.at.loop-i-preserved c).After-get16-tag) (labels_are (goal.at.loop-i-preserved c).After-get16-tag) (reached (goal.at.loop-i-preserved c).After-wide-class) to c.if-tag-ne0.reports 0 (next_is (goal.at.loop-i-preserved c).After-next_state-next) refl
-    (none_tagged (edition_of (word (goal.at.loop-i-preserved c).At-loop-i)) (bytes (goal.at.loop-i-preserved c).At-loop-i) (262 + 2 * get_or (firsts (goal.at.loop-i-preserved c).At-loop-i) to 0) c.get16-tag.result w.0.left) w.2))
-    c.if-tag-ne0.branch
+    elim c.if-tag-ne0.branch [
+      | then-tag-ne0+else-most-reports w ↦ going_loud c.loop-i.invariant h (reported (goal.at.loop-i-preserved c).After-get16-tag) (labels_are (goal.at.loop-i-preserved c).After-get16-tag) (reached (goal.at.loop-i-preserved c).After-wide-class) to c.if-tag-ne0.reports 0 (next_is (goal.at.loop-i-preserved c).After-next_state-next) refl
+    (labels_few (goal.at.loop-i-preserved c).After-get16-tag) (omega (arith, w.if-most-reports.false, w.how_many-many.ensures, size_is (goal.at.loop-i-preserved c).After-get16-tag)) (capacity (goal.at.loop-i-preserved c).At-loop-i) c.if-tag-ne0.room (w.room-is ∙ w.put_tagged.ensures) (omega (arith, w.reports-is, w.how_many-many.ensures, size_is (goal.at.loop-i-preserved c).After-get16-tag))
+      | else-tag-ne0 w ↦ rw w.room-is (going_quiet c.loop-i.invariant h (reported (goal.at.loop-i-preserved c).After-get16-tag) (labels_are (goal.at.loop-i-preserved c).After-get16-tag) (reached (goal.at.loop-i-preserved c).After-wide-class) to c.if-tag-ne0.reports 0 (next_is (goal.at.loop-i-preserved c).After-next_state-next) refl
+    (none_tagged (edition_of (word (goal.at.loop-i-preserved c).At-loop-i)) (bytes (goal.at.loop-i-preserved c).At-loop-i) (262 + 2 * get_or (firsts (goal.at.loop-i-preserved c).At-loop-i) to 0) c.get16-tag.result w.if-tag-ne0.false) w.reports-is)
+    ]
 
 pub overflow_cast-result-2 : goal.overflow_cast-result-2
 overflow_cast-result-2 c = search (rules, c.loop-i.invariant.within, c.requires.5)

@@ -61,7 +61,7 @@ pub loop-c-preserved : goal.loop-c-preserved
 loop-c-preserved c =
     let l = c.loop-c in
     let a = c.args in
-    let own = c.next_state.ensures in (
+    let own = c.next_state-x.ensures in (
       omega (arith, c.loop-c-test.true),
       how_many_more l.c (agree a.t.now a.u a.v) l.first c.counted-first.result l.invariant.1 (rw (own, c.next_state.ensures) at c.counted-first.ensures),
       how_many_more l.c (agree a.t.now a.u (a.v + 1)) l.second c.counted-second.result l.invariant.2 (rw (own, c.next_state-in-loop-c.ensures) at c.counted-second.ensures),

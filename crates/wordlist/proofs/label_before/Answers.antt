@@ -9,7 +9,7 @@ use Rattle.paper.specs.Strings as goal
 use Rattle.paper.specs.Strings.{size}
 use Rattle.paper.proofs.Below.{any_more, any_found}
 use Rattle.strings.proofs.Strings.{string_inside, string-size, label_is}
-use Rattle.wordlist.proofs.label_before.Goals as goal
+use Rattle.wordlist.proofs.label_before.Goals as asked
 use Rattle.wordlist.proofs.label_before.Goals.{After-get16, In-loop-j}
 
 -- The string stands inside the list, and there are few.
@@ -28,33 +28,33 @@ read c =
     let h : c.loop-j.j < goal.count a.list.now = omega (arith, c.loop-j-test.true, c.requires.1) in
     label_is a.list.now a.starts.now (goal.count a.list.now) c.requires.0 c.loop-j.j h c.get16.result c.get16.ensures
 
-pub loop-j-init : goal.loop-j-init
+pub loop-j-init : asked.loop-j-init
 loop-j-init c = (omega arith, refl)
 
-pub offset_bounds-starts-j : goal.offset_bounds-starts-j
-offset_bounds-starts-j c = omega (arith, inside (goal.at.offset_bounds-starts-j c).In-loop-j)
+pub offset_bounds-starts-j : asked.offset_bounds-starts-j
+offset_bounds-starts-j c = omega (arith, inside (asked.at.offset_bounds-starts-j c).In-loop-j)
 
-pub bounds-starts-j : goal.bounds-starts-j
-bounds-starts-j c = omega (arith, inside (goal.at.bounds-starts-j c).In-loop-j)
+pub bounds-starts-j : asked.bounds-starts-j
+bounds-starts-j c = omega (arith, inside (asked.at.bounds-starts-j c).In-loop-j)
 
-pub overflow_cast-starts : goal.overflow_cast-starts
-overflow_cast-starts c = omega (arith, inside (goal.at.overflow_cast-starts c).In-loop-j)
+pub overflow_cast-starts : asked.overflow_cast-starts
+overflow_cast-starts c = omega (arith, inside (asked.at.overflow_cast-starts c).In-loop-j)
 
-pub get16-requires : goal.get16-requires
-get16-requires c = omega (arith, inside (goal.at.get16-requires c).In-loop-j)
+pub get16-requires : asked.get16-requires
+get16-requires c = omega (arith, inside (asked.at.get16-requires c).In-loop-j)
 
-pub returns-then-get16-label : goal.returns-then-get16-label
+pub returns-then-get16-label : asked.returns-then-get16-label
 returns-then-get16-label c =
     let a = c.args in
-    sym (any_found a.i c.loop-j.j (λ q. eqb (goal.label a.list.now q) a.label) c.loop-j-test.true (eq-eqb (goal.label a.list.now c.loop-j.j) a.label (sym (read (goal.at.returns-then-get16-label c).After-get16) ∙ c.if-get16-label.true)))
+    sym (any_found a.i c.loop-j.j (λ q. eqb (goal.label a.list.now q) a.label) c.loop-j-test.true (eq-eqb (goal.label a.list.now c.loop-j.j) a.label (sym (read (asked.at.returns-then-get16-label c).After-get16) ∙ c.if-get16-label.true)))
 
-pub overflow_step-j : goal.overflow_step-j
-overflow_step-j c = omega (arith, inside (goal.at.overflow_step-j c).In-loop-j)
+pub overflow_step-j : asked.overflow_step-j
+overflow_step-j c = omega (arith, inside (asked.at.overflow_step-j c).In-loop-j)
 
-pub loop-j-preserved : goal.loop-j-preserved
+pub loop-j-preserved : asked.loop-j-preserved
 loop-j-preserved c =
     let a = c.args in
-    (omega arith, any_more c.loop-j.j (λ q. eqb (goal.label a.list.now q) a.label) c.loop-j.invariant.1 (ne_eqb (goal.label a.list.now c.loop-j.j) a.label (λ e. c.if-get16-label.false (read (goal.at.loop-j-preserved c).After-get16 ∙ e))))
+    (omega arith, any_more c.loop-j.j (λ q. eqb (goal.label a.list.now q) a.label) c.loop-j.invariant.1 (ne_eqb (goal.label a.list.now c.loop-j.j) a.label (λ e. c.if-get16-label.false (read (asked.at.loop-j-preserved c).After-get16 ∙ e))))
 
-pub returns : goal.returns
+pub returns : asked.returns
 returns c = let e : c.loop-j.j ≡ c.args.i = omega arith in sym (rw e at c.loop-j.invariant.1)

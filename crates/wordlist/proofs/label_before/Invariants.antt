@@ -5,10 +5,10 @@ use Prim.Native.Nat.{◌-◌, ◌≤◌}
 use lib.Dec.{eqb}
 use Rattle.paper.specs.Below.{any}
 use Rattle.paper.specs.Strings as goal
-use Rattle.wordlist.proofs.label_before.Given as goal
+use Rattle.wordlist.proofs.label_before.Given as asked
 
-abbrev pub invariant-loop-j : goal.invariant-loop-j
+abbrev pub invariant-loop-j : asked.invariant-loop-j
 invariant-loop-j l = (l.j ≤ l.i) × (any l.j (λ q. eqb (goal.label l.list q) l.label) ≡ false)
 
-abbrev pub decreases-loop-j : goal.decreases-loop-j
+abbrev pub decreases-loop-j : asked.decreases-loop-j
 decreases-loop-j l = l.i - l.j

@@ -9,7 +9,7 @@ use Rattle.paper.specs.Strings.{size}
 use Rattle.paper.proofs.Below.{any_more, any_found}
 use Rattle.strings.proofs.Strings.{string_inside, string-size, label_is}
 use Rattle.wordlist.proofs.Turns.{label_bad, labels_all, label_zero, label-twice, label_good}
-use Rattle.wordlist.proofs.labels_bad.Goals as goal
+use Rattle.wordlist.proofs.labels_bad.Goals as asked
 use Rattle.wordlist.proofs.labels_bad.Goals.{After-get16-label, At-loop-i, In-loop-i}
 
 -- The string stands inside the list, and there are few.
@@ -33,43 +33,43 @@ found l h e =
     let a = l.args in
     sym (sym (labels_all a.list.now) ∙ any_found (goal.count a.list.now) l.loop-i.i (label_bad a.list.now) (omega (arith, l.requires.counted)) e)
 
-pub loop-i-init : goal.loop-i-init
+pub loop-i-init : asked.loop-i-init
 loop-i-init c = (omega arith, refl)
 
-pub offset_bounds-starts-i : goal.offset_bounds-starts-i
-offset_bounds-starts-i c = omega (arith, inside (goal.at.offset_bounds-starts-i c).In-loop-i)
+pub offset_bounds-starts-i : asked.offset_bounds-starts-i
+offset_bounds-starts-i c = omega (arith, inside (asked.at.offset_bounds-starts-i c).In-loop-i)
 
-pub bounds-starts-i : goal.bounds-starts-i
-bounds-starts-i c = omega (arith, inside (goal.at.bounds-starts-i c).In-loop-i)
+pub bounds-starts-i : asked.bounds-starts-i
+bounds-starts-i c = omega (arith, inside (asked.at.bounds-starts-i c).In-loop-i)
 
-pub overflow_cast-starts : goal.overflow_cast-starts
-overflow_cast-starts c = omega (arith, inside (goal.at.overflow_cast-starts c).In-loop-i)
+pub overflow_cast-starts : asked.overflow_cast-starts
+overflow_cast-starts c = omega (arith, inside (asked.at.overflow_cast-starts c).In-loop-i)
 
-pub get16-label-requires : goal.get16-label-requires
-get16-label-requires c = omega (arith, inside (goal.at.get16-label-requires c).In-loop-i)
+pub get16-label-requires : asked.get16-label-requires
+get16-label-requires c = omega (arith, inside (asked.at.get16-label-requires c).In-loop-i)
 
-pub returns-then-label-eq0 : goal.returns-then-label-eq0
+pub returns-then-label-eq0 : asked.returns-then-label-eq0
 returns-then-label-eq0 c =
-    found (goal.at.returns-then-label-eq0 c).At-loop-i c.loop-i-test.true (label_zero c.args.list.now c.loop-i.i c.get16-label.result (read (goal.at.returns-then-label-eq0 c).After-get16-label) c.if-label-eq0.true)
+    found (asked.at.returns-then-label-eq0 c).At-loop-i c.loop-i-test.true (label_zero c.args.list.now c.loop-i.i c.get16-label.result (read (asked.at.returns-then-label-eq0 c).After-get16-label) c.if-label-eq0.true)
 
-pub label_before-requires : goal.label_before-requires
+pub label_before-requires : asked.label_before-requires
 label_before-requires c =
     let S = c.requires in
     (rw (← S.counted) S, omega (arith, S.counted, c.loop-i-test.true))
 
-pub returns-then-label_before : goal.returns-then-label_before
+pub returns-then-label_before : asked.returns-then-label_before
 returns-then-label_before c =
-    found (goal.at.returns-then-label_before c).At-loop-i c.loop-i-test.true (label-twice c.args.list.now c.loop-i.i c.get16-label.result (read (goal.at.returns-then-label_before c).After-get16-label) (sym c.label_before.ensures ∙ c.if-label_before.true))
+    found (asked.at.returns-then-label_before c).At-loop-i c.loop-i-test.true (label-twice c.args.list.now c.loop-i.i c.get16-label.result (read (asked.at.returns-then-label_before c).After-get16-label) (sym c.label_before.ensures ∙ c.if-label_before.true))
 
-pub overflow_step-i : goal.overflow_step-i
-overflow_step-i c = omega (arith, inside (goal.at.overflow_step-i c).In-loop-i)
+pub overflow_step-i : asked.overflow_step-i
+overflow_step-i c = omega (arith, inside (asked.at.overflow_step-i c).In-loop-i)
 
-pub loop-i-preserved : goal.loop-i-preserved
+pub loop-i-preserved : asked.loop-i-preserved
 loop-i-preserved c =
     let b = c.args.list.now in
-    (omega arith, any_more c.loop-i.i (label_bad b) c.loop-i.invariant.1 (label_good b c.loop-i.i c.get16-label.result (read (goal.at.loop-i-preserved c).After-get16-label) c.if-label-eq0.false (sym c.label_before.ensures ∙ c.if-label_before.false)))
+    (omega arith, any_more c.loop-i.i (label_bad b) c.loop-i.invariant.1 (label_good b c.loop-i.i c.get16-label.result (read (asked.at.loop-i-preserved c).After-get16-label) c.if-label-eq0.false (sym c.label_before.ensures ∙ c.if-label_before.false)))
 
-pub returns : goal.returns
+pub returns : asked.returns
 returns c =
     let a = c.args in
     let e : c.loop-i.i ≡ goal.count a.list.now = omega (arith, c.requires.counted) in

@@ -3,12 +3,11 @@ use mathlib.Core.Path.{◌≡◌}
 use mathlib.Core.Bool.{false}
 use Prim.Native.Nat.{◌-◌, ◌≤◌}
 use Rattle.paper.specs.Below.{any}
-use Rattle.paper.specs.Strings as goal
 use Rattle.wordlist.proofs.Turns.{label_bad}
-use Rattle.wordlist.proofs.labels_bad.Given as goal
+use Rattle.wordlist.proofs.labels_bad.Given as asked
 
-abbrev pub invariant-loop-i : goal.invariant-loop-i
+abbrev pub invariant-loop-i : asked.invariant-loop-i
 invariant-loop-i l = (l.i ≤ l.count) × (any l.i (label_bad l.list) ≡ false)
 
-abbrev pub decreases-loop-i : goal.decreases-loop-i
+abbrev pub decreases-loop-i : asked.decreases-loop-i
 decreases-loop-i l = l.count - l.i

@@ -1,0 +1,25 @@
+use mathlib.Core.Path.{◌≡◌}
+use Prim.Native.Nat.{◌-◌}
+use native.Mathlib.Omega.{arith}
+use Rattle.spread.proofs.Copying.{copied_none, copied_more}
+use Rattle.spread.proofs.copy_row.Goals as goal
+
+pub loop-c-init : goal.loop-c-init
+loop-c-init c = (omega arith, copied_none _ _ _)
+
+pub get16-x-requires : goal.get16-x-requires
+get16-x-requires c = omega (arith)
+
+pub put16-requires : goal.put16-requires
+put16-requires c = omega (arith)
+
+pub loop-c-preserved : goal.loop-c-preserved
+loop-c-preserved c =
+    let l = c.loop-c in
+    (omega arith, rw c.put16.ensures (copied_more l.invariant.1 c.args.k c.requires.2 (omega arith) c.get16-x.result (omega arith) (omega arith) c.get16-x.ensures))
+
+pub shape_of-room : goal.shape_of-room
+shape_of-room c = c.loop-c.invariant.1.kept.long
+
+pub returns : goal.returns
+returns c = let all : c.loop-c.c ≡ c.args.k = omega arith in rw all at c.loop-c.invariant.1
