@@ -118,6 +118,8 @@ class Names:
             return field.replace("-", "_") if f != "requires" else field, None
         if f == "pre":
             return "requires", None
+        if f == "fits":
+            return "ranges", None
         for k in (0, 1):
             p = place
             while p is not None:
@@ -375,6 +377,10 @@ def resolve(body, roots, names, starts, helpers, goal=None):
         if rest and rest[0] == "given" and n(fields[0]) in typed and len(rest) == 1:
             out.append(f"{root}.type_inv.{typed[n(fields[0])]}")
             continue
+        if fields[0] == "fits" and len(rest) == 1:
+            rest = rest + ["fits"]
+        if at is not None and re.match(r"Then|Else|In-loop|After-loop", at):
+            rest = [{"taken": "true", "left": "false"}.get(rest[0], rest[0])] + rest[1:] if rest else rest
         arm = names.parent.get(at) if at is not None else None
         if rest[:2] == ["given", "1"] and arm and re.match(r"At-match\d*-keys", arm):
             f, rest = names.step[arm][1], ["is"] + rest[2:]
@@ -442,20 +448,21 @@ def leaves(names, step):
             return walk(ks[-1], chain, arms)
         return None if p in ends else ("+".join(arms), chain)
 
-    def flat(w, side):
+    def flat(w):
         if isinstance(w, tuple):
-            out.append((side, w[0], w[1]))
-        elif w:
-            for k, x in enumerate(w):
-                flat(x, side + ([0] if k == 0 else [1]) if len(w) == 2 else side + [1] * k + ([0] if k < len(w) - 1 else []))
+            out.append(w)
+        for x in w if isinstance(w, list) else []:
+            flat(x)
 
-    starts = [w for w in (walk(q, [], []) for q in kids(top) if names.step[q] and names.step[q][0] == old) if w]
-    flat(starts, [])
+    flat([w for w in (walk(q, [], []) for q in kids(top) if names.step[q] and names.step[q][0] == old) if w])
+    # The sum of the branches is nested to the right.
+    last = len(out) - 1
+    out = [([1] * k + ([0] if k < last else []), name, chain) for k, (name, chain) in enumerate(out)]
     told = lambda p: re.match(r"After-(way|enum|known)_told", p)
     return [(s, a, [p for p in ch if not told(p)]) for s, a, ch in out]
 
 
-def turn_branches(text, names):
+def turn_branches(text, names, also=""):
     """`⊎_elim (λ w. a) (λ w. b) c.S.branch` and `elim c.S.branch [ inl w ↦ a | inr w ↦ b ]` by the names of the branches."""
 
     def facts(body, w, chain, vars_):
@@ -493,7 +500,7 @@ def turn_branches(text, names):
 
     def variables(step):
         seen = []
-        for v in re.findall(re.escape(step) + r"\.([\w]+)", text):
+        for v in re.findall(re.escape(step) + r"\.([\w]+)", also + text):
             if v != "branch" and v not in seen:
                 seen.append(v)
         order = {v: k for _, vs, _ in names.loops.values() for k, v in enumerate(vs)}
@@ -706,7 +713,7 @@ def turn(crate, root, folder, mod, muts):
                 raise Left(f"cannot read the places of {d[1]}")
             s2 = resolve(sig, insig, names, starts, hs)
             s2 = tie_places(s2)
-            e2 = turn_branches(resolve(eqs, ineq, names, starts, hs), names)
+            e2 = turn_branches(resolve(eqs, ineq, names, starts, hs), names, s2)
             placed.append((d[0], s2, unf, e2, d[1]))
         else:
             plain.append((d[0], sig, unf, eqs, d[1]))

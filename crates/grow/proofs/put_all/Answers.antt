@@ -55,7 +55,7 @@ alone c m e j h =
 put : (c : After-put_string-n) →
     let a = c.args in let b = a.list.now in let r = c.put_string-n.result in let k = c.put_string-n.new in
     (r ≡ 513 → 512 < length (up_to b (c.loop-i.i + 1)))
-    × (¬ (r ≡ 513) → Held b (up_to b (c.loop-i.i + 1)) (spread a.classes.now k.1.1.1.0) k.1.1.1.1.0 k.1.1.1.1.1.0 k.1.1.1.1.1.1.0 k.1.1.1.1.1.1.1.0 r)
+    × (¬ (r ≡ 513) → Held b (up_to b (c.loop-i.i + 1)) (spread a.classes.now k.rows) k.parent k.last k.long k.from r)
 put c =
     let a = c.args in
     let b = a.list.now in

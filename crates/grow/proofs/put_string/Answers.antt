@@ -24,7 +24,7 @@ below : (g : After-step_in-s) → ¬ (g.step_in-s.result ≡ 512) → g.step_in-
 below g d =
     let a = g.args in
     let (ws, H) = g.requires.6 in
-    put_below a.list.now ws a.at g.loop-j.j (spread a.classes.now g.loop-j.rows) g.loop-j.parent g.loop-j.last g.loop-j.long g.loop-j.from g.loop-j.held g.loop-j.p (byte_at a.list.now (a.at + g.loop-j.j)) g.step_in-s.result refl (omega (arith, g.loop-j-test.taken, g.requires.1))
+    put_below a.list.now ws a.at g.loop-j.j (spread a.classes.now g.loop-j.rows) g.loop-j.parent g.loop-j.last g.loop-j.long g.loop-j.from g.loop-j.held g.loop-j.p (byte_at a.list.now (a.at + g.loop-j.j)) g.step_in-s.result refl (omega (arith, g.loop-j-test.true, g.requires.1))
     (spread a.classes.now g.step_in-s.new.rows) g.step_in-s.new.parent g.step_in-s.new.last g.step_in-s.new.long g.step_in-s.ensures.4 (g.loop-j.invariant.2 ws H) d
 
 pub loop-j-init : goal.loop-j-init
@@ -50,8 +50,8 @@ returns-then-s-eq512 c =
     let e = c.step_in-s.ensures in (
       record { rows-size = e.0; parent_size = e.1; last_size = e.2; long_size = e.3; from_size = c.loop-j.invariant.1.from_size },
       λ ws H. (
-        λ _. put_full a.list.now ws a.at c.loop-j.j (spread a.classes.now c.loop-j.rows) c.loop-j.parent c.loop-j.last c.loop-j.long c.loop-j.from c.loop-j.held c.loop-j.p (byte_at a.list.now (a.at + c.loop-j.j)) c.step_in-s.result refl (omega (arith, c.loop-j-test.taken, c.requires.1))
-            (spread a.classes.now c.step_in-s.new.rows) c.step_in-s.new.parent c.step_in-s.new.last c.step_in-s.new.long c.step_in-s.ensures.4 (c.loop-j.invariant.2 ws H) a.size c.loop-j-test.taken c.if-s-eq512.true,
+        λ _. put_full a.list.now ws a.at c.loop-j.j (spread a.classes.now c.loop-j.rows) c.loop-j.parent c.loop-j.last c.loop-j.long c.loop-j.from c.loop-j.held c.loop-j.p (byte_at a.list.now (a.at + c.loop-j.j)) c.step_in-s.result refl (omega (arith, c.loop-j-test.true, c.requires.1))
+            (spread a.classes.now c.step_in-s.new.rows) c.step_in-s.new.parent c.step_in-s.new.last c.step_in-s.new.long c.step_in-s.ensures.4 (c.loop-j.invariant.2 ws H) a.size c.loop-j-test.true c.if-s-eq512.true,
         λ d. absurd (d refl),
       ),
     )
@@ -82,7 +82,7 @@ loop-j-preserved c =
     ] in (
       omega arith,
       record { rows-size = e.0; parent_size = e.1; last_size = e.2; long_size = e.3; from_size = length-set c.loop-j.from r a.at ∙ c.loop-j.invariant.1.from_size },
-      λ ws H. put_turn a.list.now ws a.at c.loop-j.j (spread a.classes.now c.loop-j.rows) c.loop-j.parent c.loop-j.last c.loop-j.long c.loop-j.from c.loop-j.held c.loop-j.p (byte_at a.list.now (a.at + c.loop-j.j)) r refl (omega (arith, c.loop-j-test.taken, c.requires.1))
+      λ ws H. put_turn a.list.now ws a.at c.loop-j.j (spread a.classes.now c.loop-j.rows) c.loop-j.parent c.loop-j.last c.loop-j.long c.loop-j.from c.loop-j.held c.loop-j.p (byte_at a.list.now (a.at + c.loop-j.j)) r refl (omega (arith, c.loop-j-test.true, c.requires.1))
           (spread a.classes.now c.step_in-s.new.rows) c.step_in-s.new.parent c.step_in-s.new.last c.step_in-s.new.long c.step_in-s.ensures.4 (c.loop-j.invariant.2 ws H) c.loop-j.invariant.1.from_size c.if-s-eq512.false c.if-s-held.held o,
     )
 

@@ -18,15 +18,15 @@ met c =
     let xb : l.x < a.n = omega arith in
     let long : l.x < length l.d = omega (arith, c.requires) in
     elim c.if-t-tu.branch [
-      | else-t-tu+else-t-tv w ↦ rw w.VARIABLE-is (
+      | else-t-tu+else-t-tv w ↦ rw w.d-is (
         l.invariant.1,
         renewed_other a.n a.u a.v c.requires.1 c.requires.2 a.d0 a.parent.now a.tree.now l.d l.x xb l.invariant.2 w.if-t-tu.false w.if-t-tv.false,
       )
-      | else-t-tu+then-t-tv w ↦ rw w.VARIABLE-is (
+      | else-t-tu+then-t-tv w ↦ rw w.d-is (
         simp length-set l.invariant.1,
         renewed_second a.n a.u a.v c.requires.1 c.requires.2 a.d0 a.parent.now a.tree.now l.d l.x xb l.invariant.2 w.farther-e-then-t-tv.result long w.if-t-tv.true w.farther-e-then-t-tv.ensures,
       )
-      | then-t-tu w ↦ rw w.VARIABLE-is (
+      | then-t-tu w ↦ rw w.d-is (
         simp length-set l.invariant.1,
         renewed_first a.n a.u a.v c.requires.1 c.requires.2 a.d0 a.parent.now a.tree.now l.d l.x xb l.invariant.2 w.farther-e.result long w.if-t-tu.true w.farther-e.ensures,
       )

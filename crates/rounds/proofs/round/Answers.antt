@@ -39,8 +39,8 @@ loop-x-preserved c =
       fills_more c.loop-x.invariant.0 (inside (goal.at.loop-x-preserved c).In-loop-x) E.0,
       E.1.0,
       elim c.if-p-x.branch [
-        | then-p-x w ↦ rw w.VARIABLE-is (E.1.1 w.if-p-x.true)
-        | else-p-x w ↦ rw w.VARIABLE-is (E.1.2 w.if-p-x.false)
+        | then-p-x w ↦ rw w.m-is (E.1.1 w.if-p-x.true)
+        | else-p-x w ↦ rw w.m-is (E.1.2 w.if-p-x.false)
       ],
     )
 

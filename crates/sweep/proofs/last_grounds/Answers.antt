@@ -46,7 +46,7 @@ get16-depth-requires c = omega (arith, c.requires.laid.long)
 pub returns-then-depth-deep : goal.returns-then-depth-deep
 returns-then-depth-deep c =
     let found = c.ordered-chains.ensures in
-    image_last (bytes (goal.at.returns-then-depth-deep c).After-ordered-chains) 13 (other_depth _ _ _ _ _ (found.0 ∙ c.if-chains.left) (needed (goal.at.returns-then-depth-deep c).Else-swept) (λ e. c.if-depth-deep.true (c.get16-depth.ensures ∙ e ∙ (found.1 c.if-chains.left).0)))
+    image_last (bytes (goal.at.returns-then-depth-deep c).After-ordered-chains) 13 (other_depth _ _ _ _ _ (found.0 ∙ c.if-chains.false) (needed (goal.at.returns-then-depth-deep c).Else-swept) (λ e. c.if-depth-deep.true (c.get16-depth.ensures ∙ e ∙ (found.1 c.if-chains.false).0)))
 
 pub overflow_sub-image : goal.overflow_sub-image
 overflow_sub-image c = omega (arith, c.requires.laid.long)
@@ -58,11 +58,11 @@ pub returns-then-worst-far : goal.returns-then-worst-far
 returns-then-worst-far c =
     let found = c.ordered-chains.ensures in
     let far = c.sweep-swept.ensures.1 c.if-swept.false in
-    image_last (bytes (goal.at.returns-then-worst-far c).After-ordered-chains) 13 (other_worst _ _ _ _ _ (found.0 ∙ c.if-chains.left) (needed (goal.at.returns-then-worst-far c).Else-swept) (λ e. c.if-worst-far.true (c.get16-worst.ensures ∙ e ∙ sym far)))
+    image_last (bytes (goal.at.returns-then-worst-far c).After-ordered-chains) 13 (other_worst _ _ _ _ _ (found.0 ∙ c.if-chains.false) (needed (goal.at.returns-then-worst-far c).Else-swept) (λ e. c.if-worst-far.true (c.get16-worst.ensures ∙ e ∙ sym far)))
 
 pub returns : goal.returns
 returns c =
     let found = c.ordered-chains.ensures in
     let far = c.sweep-swept.ensures.1 c.if-swept.false in
-    image_last (bytes (goal.at.returns c).After-ordered-chains) 0 (none_left _ _ _ _ _ (found.0 ∙ c.if-chains.left) (needed (goal.at.returns c).Else-swept)
-    (sym c.get16-depth.ensures ∙ c.if-depth-deep.false ∙ sym (found.1 c.if-chains.left).0) (sym c.get16-worst.ensures ∙ c.if-worst-far.false ∙ far))
+    image_last (bytes (goal.at.returns c).After-ordered-chains) 0 (none_left _ _ _ _ _ (found.0 ∙ c.if-chains.false) (needed (goal.at.returns c).Else-swept)
+    (sym c.get16-depth.ensures ∙ c.if-depth-deep.false ∙ sym (found.1 c.if-chains.false).0) (sym c.get16-worst.ensures ∙ c.if-worst-far.false ∙ far))

@@ -41,8 +41,8 @@ loop-c-preserved c =
     let x = c.next_state-x in (
       omega arith,
       elim c.if-levels-x.branch [
-        | then-levels-x w ↦ rw w.VARIABLE-is (row_hit a.t.now a.levels.now l.levels a.s l.c a.mark x.result x.ensures l.invariant.1 (small (goal.at.loop-c-preserved c).After-next_state-x) w.if-levels-x.true)
-        | else-levels-x w ↦ rw w.VARIABLE-is (row_miss a.t.now a.levels.now l.levels a.s l.c a.mark x.result x.ensures l.invariant.1 w.if-levels-x.false)
+        | then-levels-x w ↦ rw w.levels-is (row_hit a.t.now a.levels.now l.levels a.s l.c a.mark x.result x.ensures l.invariant.1 (small (goal.at.loop-c-preserved c).After-next_state-x) w.if-levels-x.true)
+        | else-levels-x w ↦ rw w.levels-is (row_miss a.t.now a.levels.now l.levels a.s l.c a.mark x.result x.ensures l.invariant.1 w.if-levels-x.false)
       ],
     )
 

@@ -28,7 +28,7 @@ read c =
     label_is a.list.now a.starts.now a.count c.requires c.loop-i.i c.loop-i-test.true c.get16-label.result c.get16-label.ensures
 
 -- A string found is one of the list.
-found : (l : At-loop-i) → let a = l.args in l.loop-i.i < a.count → label_bad a.list.now l.loop-i.i ≡ true → true ≡ goal.listLabelsBad a.list.now
+found : (l : At-loop-i) → let a = l.args in l.loop-i.i < a.count → label_bad a.list.now l.loop-i.i ≡ true → true ≡ goal.list_labels_bad a.list.now
 found l h e =
     let a = l.args in
     sym (sym (labels_all a.list.now) ∙ any_found (goal.count a.list.now) l.loop-i.i (label_bad a.list.now) (omega (arith, l.requires.counted)) e)
