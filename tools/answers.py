@@ -118,6 +118,8 @@ class Names:
             return field.replace("-", "_") if f != "requires" else field, None
         if f == "pre":
             return "requires", None
+        if f == "good":
+            return "well_formed", None
         if f == "fits":
             return "ranges", None
         for k in (0, 1):
@@ -386,6 +388,8 @@ def resolve(body, roots, names, starts, helpers, goal=None):
             f, rest = names.step[arm][1], ["is"] + rest[2:]
         if rest and rest[0] == "inv":
             rest = ["invariant"] + rest[1:]
+        if len(rest) >= 2 and rest[0] == "last" and rest[1].isdigit():
+            rest = ["new"] + rest[1:]
         if at is not None and len(rest) >= 2 and rest[0] == "new" and names.callee.get(at):
             ps = names.params.get(names.callee[at])
             j, q = 1, 0
@@ -484,6 +488,8 @@ def turn_branches(text, names, also=""):
                 if arm and re.match(r"At-match\d*-keys", arm):
                     f = names.step[arm][1]
                 rest = ["is"] + rest[2:]
+            if len(rest) >= 2 and rest[0] == "last" and rest[1].isdigit():
+                rest[0] = "new"
             if len(rest) >= 2 and rest[0] == "new" and names.callee.get(place):
                 ps = names.params.get(names.callee[place])
                 j, q = 1, 0
@@ -645,6 +651,20 @@ def used(text, uses):
     return out
 
 
+def merged(uses):
+    """Use lines without those that stand twice."""
+    items, order = {}, []
+    for u in uses:
+        m = re.match(r"use ([^{]*?)\.\{([^}]*)\}", u, re.S)
+        k = m.group(1) if m else u
+        if k not in items:
+            items[k] = []
+            order.append(k)
+        if m:
+            items[k] += [i for i in re.split(r",\s*", m.group(2).strip()) if i and i not in items[k]]
+    return [f"use {k}.{{{', '.join(items[k])}}}" if items[k] else k for k in order]
+
+
 def turn(crate, root, folder, mod, muts):
     path = os.path.join(folder, "Proof.antt")
     text = open(path, encoding="utf-8").read()
@@ -653,7 +673,12 @@ def turn(crate, root, folder, mod, muts):
     names = Names(mod, muts, None)
     rel = os.path.relpath(folder, os.path.join(root, "crates", crate, "proofs"))
     modpath = f"Rattle.{crate}.proofs." + rel.replace("/", ".")
-    head, uses, decls = blocks(text)
+    head, uses, decls = blocks(re.sub(r"(?m)^mod \w+\n", "", text))
+    # What stands in files of its own below Proof/ comes first.
+    for q in sorted(glob.glob(os.path.join(folder, "Proof", "*.antt"))):
+        h2, u2, d2 = blocks(open(q, encoding="utf-8").read())
+        head, decls = head + h2, d2 + decls
+        uses = merged([u for u in uses + u2 if ".Proof." not in u])
     uses = [u for u in uses if not u.rstrip().endswith("Tie as tie") and ".Statement.{statement}" not in u]
     inv, helpers, answers, notes = [], [], [], []
     starts = {}
@@ -797,6 +822,10 @@ def turn(crate, root, folder, mod, muts):
     if out_ans:
         open(os.path.join(folder, "Answers.antt"), "w", encoding="utf-8").write(out_ans)
     os.remove(path)
+    for q in glob.glob(os.path.join(folder, "Proof", "*.antt")):
+        os.remove(q)
+    if os.path.isdir(os.path.join(folder, "Proof")):
+        os.rmdir(os.path.join(folder, "Proof"))
     if not out_inv and not out_ans:
         os.rmdir(folder) if not os.listdir(folder) else None
     return notes

@@ -28,20 +28,20 @@ loop-u-preserved c =
     let long : l.u < length l.low = omega (arith, l.invariant.1, c.loop-u-test.true, c.requires) in (
       omega arith,
       elim c.if-low-u.branch [
-        | then-low-u+then-row-best w ↦ rw w.VARIABLE-is (simp length-set l.invariant.1)
-        | then-low-u+else-row-best w ↦ rw w.VARIABLE-is (simp length-set l.invariant.1)
-        | else-low-u w ↦ rw w.VARIABLE-is l.invariant.1
+        | then-low-u+then-row-best w ↦ rw w.low-is (simp length-set l.invariant.1)
+        | then-low-u+else-row-best w ↦ rw w.low-is (simp length-set l.invariant.1)
+        | else-low-u w ↦ rw w.low-is l.invariant.1
       ],
       elim c.if-low-u.branch [
         | then-low-u+then-row-best w ↦ 
           let r = w.best_in_row-row.result in
-          rw (w.VARIABLE-is, w.VARIABLE-is) (searched_better a.n fits key small l.u a.floors l.low l.best.key l.best.u l.best.v l.invariant.2
+          rw (w.low-is, w.best-is) (searched_better a.n fits key small l.u a.floors l.low l.best.key l.best.u l.best.v l.invariant.2
           long r.key r.u r.v w.best_in_row-row.ensures w.if-row-best.true)
         | then-low-u+else-row-best w ↦ 
           let r = w.best_in_row-row.result in
-          rw (w.VARIABLE-is, w.VARIABLE-is) (searched_worse a.n fits key small l.u a.floors l.low l.best.key l.best.u l.best.v l.invariant.2
+          rw (w.low-is, w.best-is) (searched_worse a.n fits key small l.u a.floors l.low l.best.key l.best.u l.best.v l.invariant.2
           long r.key r.u r.v w.best_in_row-row.ensures w.if-row-best.false)
-        | else-low-u w ↦ rw (w.VARIABLE-is, w.VARIABLE-is) (searched_skips a.n fits key small l.u a.floors l.low l.best.key l.best.u l.best.v l.invariant.2 w.if-low-u.false)
+        | else-low-u w ↦ rw (w.low-is, w.best-is) (searched_skips a.n fits key small l.u a.floors l.low l.best.key l.best.u l.best.v l.invariant.2 w.if-low-u.false)
       ],
     )
 

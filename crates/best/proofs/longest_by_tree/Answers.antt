@@ -17,12 +17,12 @@ loop-x-preserved c =
     let tree = a.tree.now in (
       omega arith,
       elim c.if-t-lt512.branch [
-        | then-t-lt512 w ↦ rw w.VARIABLE-is (simp length-set l.invariant.1)
-        | else-t-lt512 w ↦ rw w.VARIABLE-is l.invariant.1
+        | then-t-lt512 w ↦ rw w.most-is (simp length-set l.invariant.1)
+        | else-t-lt512 w ↦ rw w.most-is l.invariant.1
       ],
       elim c.if-t-lt512.branch [
-        | then-t-lt512 w ↦ rw w.VARIABLE-is (by_tree_stored far tree l.x l.most l.invariant.2 w.if-t-lt512.true w.larger-m.result (omega (arith, w.if-t-lt512.true, l.invariant.1)) w.larger-m.ensures)
-        | else-t-lt512 w ↦ rw w.VARIABLE-is (by_tree_kept far tree l.x l.most l.invariant.2 (λ k. omega (arith, w.if-t-lt512.false)))
+        | then-t-lt512 w ↦ rw w.most-is (by_tree_stored far tree l.x l.most l.invariant.2 w.if-t-lt512.true w.larger-m.result (omega (arith, w.if-t-lt512.true, l.invariant.1)) w.larger-m.ensures)
+        | else-t-lt512 w ↦ rw w.most-is (by_tree_kept far tree l.x l.most l.invariant.2 (λ k. omega (arith, w.if-t-lt512.false)))
       ],
     )
 

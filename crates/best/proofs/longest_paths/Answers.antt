@@ -20,12 +20,12 @@ loop-x-preserved c =
     let most = c.longest_by_tree-most.result in (
       omega arith,
       elim c.if-t-lt512.branch [
-        | then-t-lt512 w ↦ rw w.VARIABLE-is (simp length-set l.invariant.1)
-        | else-t-lt512 w ↦ rw w.VARIABLE-is l.invariant.1
+        | then-t-lt512 w ↦ rw w.long-is (simp length-set l.invariant.1)
+        | else-t-lt512 w ↦ rw w.long-is l.invariant.1
       ],
       elim c.if-t-lt512.branch [
-        | then-t-lt512 w ↦ rw w.VARIABLE-is (spread_stored a.d.now a.tree.now most _ l.long l.x l.invariant.2 (omega arith))
-        | else-t-lt512 w ↦ rw w.VARIABLE-is (spread_kept a.d.now a.tree.now most _ l.long l.x l.invariant.2 (λ k. omega (arith, w.if-t-lt512.false)))
+        | then-t-lt512 w ↦ rw w.long-is (spread_stored a.d.now a.tree.now most _ l.long l.x l.invariant.2 (omega arith))
+        | else-t-lt512 w ↦ rw w.long-is (spread_kept a.d.now a.tree.now most _ l.long l.x l.invariant.2 (λ k. omega (arith, w.if-t-lt512.false)))
       ],
     )
 

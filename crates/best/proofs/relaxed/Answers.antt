@@ -20,12 +20,12 @@ loop-x-preserved c =
     let a = c.args in (
       omega arith,
       elim c.if-low-x-lt65536.branch [
-        | then-low-x-lt65536 w ↦ rw w.VARIABLE-is (simp length-set l.invariant.1)
-        | else-low-x-lt65536 w ↦ rw w.VARIABLE-is l.invariant.1
+        | then-low-x-lt65536 w ↦ rw w.low-is (simp length-set l.invariant.1)
+        | else-low-x-lt65536 w ↦ rw w.low-is l.invariant.1
       ],
       elim c.if-low-x-lt65536.branch [
-        | then-low-x-lt65536 w ↦ rw w.VARIABLE-is (relaxed_zero a.order a.floors l.low l.x l.invariant.2 (omega arith))
-        | else-low-x-lt65536 w ↦ rw w.VARIABLE-is (relaxed_kept a.order a.floors l.low l.x l.invariant.2 w.if-low-x-lt65536.false)
+        | then-low-x-lt65536 w ↦ rw w.low-is (relaxed_zero a.order a.floors l.low l.x l.invariant.2 (omega arith))
+        | else-low-x-lt65536 w ↦ rw w.low-is (relaxed_kept a.order a.floors l.low l.x l.invariant.2 w.if-low-x-lt65536.false)
       ],
     )
 

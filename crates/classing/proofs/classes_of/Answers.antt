@@ -21,8 +21,8 @@ turn c rs M e =
     let h = c.loop-x-test.true in
     let q = (c.loop-x.invariant.2 rs M e).0 in
     elim c.if-used-x.branch [
-      | then-used-x w ↦ let (p, r) = class_takes rs c.loop-x.x c.loop-x.k (sym (M c.loop-x.x h) ∙ w.if-used-x.true) q in (w.k-is ∙ p, w.class-is ∙ r)
-      | else-used-x w ↦ let (p, r) = class_skips rs c.loop-x.x c.loop-x.k (sym (M c.loop-x.x h) ∙ w.if-used-x.false) q in (w.k-is ∙ p, w.class-is ∙ r)
+      | then-used-x w ↦ let (p, r) = class_takes rs c.loop-x.x c.loop-x.k (sym (M c.loop-x.x h) ∙ w.if-used-x.true) q in (w.class-is ∙ p, w.k-is ∙ r)
+      | else-used-x w ↦ let (p, r) = class_skips rs c.loop-x.x c.loop-x.k (sym (M c.loop-x.x h) ∙ w.if-used-x.false) q in (w.class-is ∙ p, w.k-is ∙ r)
     ]
 
 -- It is below 256.
