@@ -431,7 +431,7 @@ def leaves(names, step):
     if not join:
         raise Left(f"no join {step}")
     top = names.parent[join[0]]
-    kids = lambda p: [q for q in names.parent if names.parent[q] == p and "unread" not in q and q not in join and not q.startswith(("Joined", "At-loop", "In-loop", "After-loop")) and not q.endswith("-branch")]
+    kids = lambda p: [q for q in names.parent if names.parent[q] == p and "unread" not in q and q not in join and not q.startswith("In-loop")]
     old = names.step[join[0]][0]
     low = lambda s: s[0].lower() + s[1:]
     out = []
@@ -441,9 +441,12 @@ def leaves(names, step):
     def walk(p, chain, arms):
         """The ways on from a place that come to the join, as a tree of lists."""
         chain = chain + [p]
-        if re.match(r"(Then|Else|At-match)", p):
+        if re.match(r"(Then|Else|At-match)", p) and not p.endswith("-branch"):
             arms = arms + [low(names.newplace[p])]
         ks = kids(p)
+        met = [q for q in ks if q.startswith("Joined") or q.endswith("-branch")]
+        if met:
+            return walk(met[0], chain, arms)
         tests = [q for q in ks if re.match(r"(Then|Else|At-match)", q)]
         if len(tests) >= 2:
             got = [w for w in (walk(q, chain, arms) for q in tests) if w]
@@ -738,7 +741,7 @@ def turn(crate, root, folder, mod, muts):
                 raise Left(f"cannot read the places of {d[1]}")
             s2 = resolve(sig, insig, names, starts, hs)
             s2 = tie_places(s2)
-            e2 = turn_branches(resolve(eqs, ineq, names, starts, hs), names, s2)
+            e2 = re.sub(r"\.inv(?![\w-])", ".invariant", tie_places(turn_branches(resolve(eqs, ineq, names, starts, hs), names, s2)))
             placed.append((d[0], s2, unf, e2, d[1]))
         else:
             plain.append((d[0], sig, unf, eqs, d[1]))
@@ -771,7 +774,7 @@ def turn(crate, root, folder, mod, muts):
         rest = resolve(eqs[m.end():], {root: names.need_place[g]}, names, starts, hs, g)
         if loopnames:
             rest = loops_in(rest)
-        rest = turn_branches(rest, names)
+        rest = re.sub(r"\.inv(?![\w-])", ".invariant", tie_places(turn_branches(rest, names)))
         lead = eqs[: m.end()]
         sep = "\n" if "\n" in lead else " "
         gap = lead[lead.rindex("=") + 1:]

@@ -75,7 +75,7 @@ pub fn states_bad(x: &[u8], p: usize, q: usize, n: usize) -> bool
 // Where the records begin: 4q + 12 bytes, and 4p before them, from the patch's end.
 pub fn records_at(x: &[u8], p: usize, q: usize) -> usize
     requires { Shaped x.now p q }
-    ensures { (result ≡ patch.recordsAt x.now) × (result + 4 * p + 4 * q + 12 ≡ length x.now) }
+    ensures { (result ≡ patch.records_at_of x.now) × (result + 4 * p + 4 * q + 12 ≡ length x.now) }
 {
     x.len() - (4 * q + 12) - 4 * p
 }
@@ -101,7 +101,7 @@ pub fn begins_of(x: &[u8], p: usize, q: usize) -> [u32; 65]
 // The entries of a listed state, as a part of the patch.
 pub fn entries_of<'a>(x: &'a [u8], begins: &[u32; 65], p: usize, q: usize, i: usize) -> &'a [u8]
     requires { Counts x.now p q × PatchBegins x.now p begins.now × (i < p) }
-    ensures { result.now ≡ patch.entriesPart x.now i }
+    ensures { result.now ≡ patch.entries_part_of x.now i }
 {
     let from = begins[i] as usize;
     let end = begins[i + 1] as usize;

@@ -49,9 +49,9 @@ loop-at-preserved c =
     let held : Forest → Type 0 = λ (g : Forest). Falls a.n (rest a.order a.n) a.bound (weight_in a.weights.now) a.top (at - 1) a.f0.d a.f0.parent a.f0.tree g.d g.parent g.tree in (
       omega arith,
       elim c.if-w-ne0.branch [
-        | then-w-ne0 w ↦ subst held (sym w.VARIABLE-is) (more w.take_weight-f.result.d w.take_weight-f.result.parent w.take_weight-f.result.tree
+        | then-w-ne0 w ↦ subst held (sym w.f-is) (more w.take_weight-f.result.d w.take_weight-f.result.parent w.take_weight-f.result.tree
           (rw (named.own at (omega arith) w.if-w-ne0.true) at w.take_weight-f.ensures))
-        | else-w-ne0 w ↦ subst held (sym w.VARIABLE-is) (more f.d f.parent f.tree
+        | else-w-ne0 w ↦ subst held (sym w.f-is) (more f.d f.parent f.tree
           (becomes_absent a.n (rest a.order a.n) a.bound (weight_in a.weights.now) at
           (unseen_absent a.seen.now a.weights.now a.n at c.requires.0 some named w.if-w-ne0.false) f.d f.parent f.tree c.loop-at.invariant.1.becomes.whole))
       ],

@@ -40,9 +40,9 @@ turned c =
     let held : Forest → Type 0 = λ (g : Forest). Becomes a.n a.bound (λ F. row a.n a.bound (weight_in a.weights.now) a.w u F (l.v + 1)) f.d f.parent f.tree g.d g.parent g.tree in
     elim c.if-takes.branch [
       | then-takes w ↦ subst held (sym w.f-is) (row_added a.n a.bound (weight_in a.weights.now) a.w u f.d f.parent f.tree l.f.d l.f.parent l.f.tree
-    l.v l.inv.0 (tried c) l.inv.2 _ (asked c) w.if-takes.true w.join-f.result.d w.join-f.result.parent w.join-f.result.tree w.join-f.ensures)
+    l.v l.invariant.0 (tried c) l.invariant.2 _ (asked c) w.if-takes.true w.join-f.result.d w.join-f.result.parent w.join-f.result.tree w.join-f.ensures)
       | else-takes w ↦ subst held (sym w.f-is) (row_dropped a.n a.bound (weight_in a.weights.now) a.w u f.d f.parent f.tree l.f.d l.f.parent l.f.tree
-    l.v l.inv.0 (tried c) l.inv.2 _ (asked c) w.if-takes.false)
+    l.v l.invariant.0 (tried c) l.invariant.2 _ (asked c) w.if-takes.false)
     ]
 
 -- Where the ways meet the row is taken: it was full, or its pairs were tried one after the other.
@@ -55,7 +55,7 @@ row_taken c =
     let a = c.args in
     let held : Forest → Type 0 = λ (g : Forest). Becomes a.n a.bound (λ F. row a.n a.bound (weight_in a.weights.now) a.w l.u F a.n) l.f.d l.f.parent l.f.tree g.d g.parent g.tree in
     elim c.if-f-u.branch [
-      | then-f-u w ↦ let e : w.f-is.v ≡ a.n = omega (arith, w.f-is.inv.1, w.VARIABLE-is.left) in subst held (sym w.VARIABLE-is) (rw e at w.f-is.inv.2)
+      | then-f-u w ↦ let e : w.loop-v.v ≡ a.n = omega (arith, w.loop-v.invariant.1, w.loop-v-test.false) in subst held (sym w.f-is) (rw e at w.loop-v.invariant.2)
       | else-f-u w ↦ subst held (sym w.f-is) (row_full a.n a.bound (weight_in a.weights.now) a.w l.f.d l.f.parent l.f.tree l.invariant.1.whole l.u w.if-f-u.false)
     ]
 
