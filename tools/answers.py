@@ -443,6 +443,8 @@ def leaves(names, step):
         chain = chain + [p]
         if re.match(r"(Then|Else|At-match)", p) and not p.endswith("-branch"):
             arms = arms + [low(names.newplace[p])]
+        elif p.startswith("After-loop"):
+            arms = arms + ["else-" + names.step[p][1]]
         ks = kids(p)
         met = [q for q in ks if q.startswith("Joined") or q.endswith("-branch")]
         if met:

@@ -11,7 +11,7 @@ use Rattle.greedy.specs.Good.{Becomes}
 use Rattle.pairs.proofs.Taken.{taken_short}
 use Rattle.greedy.proofs.Rows.{rows_start, row_starts, row_dropped, row_added, row_passed, row_full, rows_more, rows_end}
 use Rattle.greedy.proofs.take_level.Goals as goal
-use Rattle.greedy.proofs.take_level.Goals.{In-loop-u, In-loop-v, Joined-f-u, Joined-takes, else-f-u, else-takes, then-f-u, then-takes}
+use Rattle.greedy.proofs.take_level.Goals.{In-loop-u, In-loop-v, Joined-f-u, Joined-takes, else-f-u, else-takes, then-f-u+else-loop-v-test, then-takes}
 
 -- A pair was tried, so there is one.
 tried : (c : Joined-takes) → c.loop-v.v < c.args.n
@@ -55,7 +55,7 @@ row_taken c =
     let a = c.args in
     let held : Forest → Type 0 = λ (g : Forest). Becomes a.n a.bound (λ F. row a.n a.bound (weight_in a.weights.now) a.w l.u F a.n) l.f.d l.f.parent l.f.tree g.d g.parent g.tree in
     elim c.if-f-u.branch [
-      | then-f-u w ↦ let e : w.loop-v.v ≡ a.n = omega (arith, w.loop-v.invariant.1, w.loop-v-test.false) in subst held (sym w.f-is) (rw e at w.loop-v.invariant.2)
+      | then-f-u+else-loop-v-test w ↦ let e : w.loop-v.v ≡ a.n = omega (arith, w.loop-v.invariant.1, w.loop-v-test.false) in subst held (sym w.f-is) (rw e at w.loop-v.invariant.2)
       | else-f-u w ↦ subst held (sym w.f-is) (row_full a.n a.bound (weight_in a.weights.now) a.w l.f.d l.f.parent l.f.tree l.invariant.1.whole l.u w.if-f-u.false)
     ]
 

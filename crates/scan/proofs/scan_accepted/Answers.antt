@@ -145,9 +145,9 @@ loop-i-preserved c =
     let size = many_tagged (edition_of c.args.word) b (from (goal.at.loop-i-preserved c).After-taken_one-taken) t.tag in
     elim c.if-tag-ne0.branch [
       | then-tag-ne0+else-most-reports w ↦ going_loud c.loop-i.invariant h (reported (goal.at.loop-i-preserved c).After-taken_one-taken) (labels_are (goal.at.loop-i-preserved c).After-taken_one-taken) (reached (goal.at.loop-i-preserved c).After-taken_one-taken) t.run.state next t.run.hops (target_is b c.loop-i.run (byte (goal.at.loop-i-preserved c).At-loop-i) t e) (hops_are b c.loop-i.run (byte (goal.at.loop-i-preserved c).At-loop-i) t e)
-    (labels_few (goal.at.loop-i-preserved c).After-taken_one-taken) (omega (arith, w.if-most-reports.false, w.how_many-many.ensures, size)) (capacity (goal.at.loop-i-preserved c).At-loop-i) c.if-tag-ne0.room (w.count-is ∙ w.put_tagged.ensures) (omega (arith, w.room-is, w.how_many-many.ensures, size))
-      | else-tag-ne0 w ↦ rw w.count-is (going_quiet c.loop-i.invariant h (reported (goal.at.loop-i-preserved c).After-taken_one-taken) (labels_are (goal.at.loop-i-preserved c).After-taken_one-taken) (reached (goal.at.loop-i-preserved c).After-taken_one-taken) t.run.state next t.run.hops (target_is b c.loop-i.run (byte (goal.at.loop-i-preserved c).At-loop-i) t e) (hops_are b c.loop-i.run (byte (goal.at.loop-i-preserved c).At-loop-i) t e)
-    (none_tagged (edition_of c.args.word) b (from (goal.at.loop-i-preserved c).After-taken_one-taken) t.tag w.if-tag-ne0.false) w.room-is)
+    (labels_few (goal.at.loop-i-preserved c).After-taken_one-taken) (omega (arith, w.if-most-reports.false, w.how_many-many.ensures, size)) (capacity (goal.at.loop-i-preserved c).At-loop-i) c.if-tag-ne0.room (w.room-is ∙ w.put_tagged.ensures) (omega (arith, w.count-is, w.how_many-many.ensures, size))
+      | else-tag-ne0 w ↦ rw w.room-is (going_quiet c.loop-i.invariant h (reported (goal.at.loop-i-preserved c).After-taken_one-taken) (labels_are (goal.at.loop-i-preserved c).After-taken_one-taken) (reached (goal.at.loop-i-preserved c).After-taken_one-taken) t.run.state next t.run.hops (target_is b c.loop-i.run (byte (goal.at.loop-i-preserved c).At-loop-i) t e) (hops_are b c.loop-i.run (byte (goal.at.loop-i-preserved c).At-loop-i) t e)
+    (none_tagged (edition_of c.args.word) b (from (goal.at.loop-i-preserved c).After-taken_one-taken) t.tag w.if-tag-ne0.false) w.count-is)
     ]
 
 pub overflow_cast-result-2 : goal.overflow_cast-result-2
