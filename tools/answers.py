@@ -13,7 +13,7 @@ import re
 import sys
 
 W = r"[^\s(){}.;,@\"«»\[\]\\]+"
-n = lambda s: s.replace("_", "-")
+n = lambda s: s.replace("_", "-").lower()
 
 
 class Left(Exception):

@@ -39,12 +39,12 @@ loop-x-preserved c =
     let xb : l.x < length l.near = omega arith in (
       omega arith,
       elim c.if-p-x.branch [
-        | then-p-x w ↦ rw w.VARIABLE-is (simp length-set l.invariant.1)
-        | else-p-x w ↦ rw w.VARIABLE-is l.invariant.1
+        | then-p-x w ↦ rw w.near-is (simp length-set l.invariant.1)
+        | else-p-x w ↦ rw w.near-is l.invariant.1
       ],
       elim c.if-p-x.branch [
-        | then-p-x w ↦ rw w.VARIABLE-is (near_more parent l.near l.x l.invariant.2 w.if-p-x.true xb pb)
-        | else-p-x w ↦ rw w.VARIABLE-is (near_kept parent l.near l.x l.invariant.2 w.if-p-x.false)
+        | then-p-x w ↦ rw w.near-is (near_more parent l.near l.x l.invariant.2 w.if-p-x.true xb pb)
+        | else-p-x w ↦ rw w.near-is (near_kept parent l.near l.x l.invariant.2 w.if-p-x.false)
       ],
     )
 

@@ -27,9 +27,9 @@ loop-x-preserved c =
     let xb : l.x < c.args.n = omega (arith, (goal.at.loop-x-preserved c).In-loop-x) in (
       omega arith,
       elim c.if-is_root.branch [
-        | then-is_root w ↦ rw w.VARIABLE-is (settles_turned c.args.n c.requires.0 f.d f.parent f.tree N.result N.ensures l.parent l.x xb l.invariant.1
+        | then-is_root w ↦ rw w.parent-is (settles_turned c.args.n c.requires.0 f.d f.parent f.tree N.result N.ensures l.parent l.x xb l.invariant.1
           (sym c.is_root.ensures ∙ w.if-is_root.true) w.turned_to-turned.result w.turned_to-turned.ensures.0 w.turned_to-turned.ensures.1)
-        | else-is_root w ↦ rw w.VARIABLE-is (settles_past c.args.n c.requires.0 f.d f.parent f.tree N.result N.ensures l.parent l.x xb l.invariant.1
+        | else-is_root w ↦ rw w.parent-is (settles_past c.args.n c.requires.0 f.d f.parent f.tree N.result N.ensures l.parent l.x xb l.invariant.1
           (sym c.is_root.ensures ∙ w.if-is_root.false))
       ],
     )

@@ -171,9 +171,9 @@ loop-i-preserved c =
     let further = ap (λ (y : ℕ). c.loop-i.hops + y) L.hops_are in
     elim c.if-tag-ne0.branch [
       | then-tag-ne0+else-most-reports w ↦ going_loud c.loop-i.invariant h (reported (goal.at.loop-i-preserved c).After-get16-tag) S.labels_so L.reached t.target next hops L.target_is further
-    S.few (omega (arith, w.if-most-reports.false, w.how_many-many.ensures, S.many)) (capacity (goal.at.loop-i-preserved c).At-loop-i) c.if-tag-ne0.room (w.count-is ∙ w.put_tagged.ensures) (omega (arith, w.room-is, w.how_many-many.ensures, S.many))
-      | else-tag-ne0 w ↦ rw w.count-is (going_quiet c.loop-i.invariant h (reported (goal.at.loop-i-preserved c).After-get16-tag) S.labels_so L.reached t.target next hops L.target_is further
-    (none_tagged (edition_of a.word) a.image.now (268 + 2 * get_or a.firsts.now t.target 0) c.get16-tag.result w.if-tag-ne0.false) w.room-is)
+    S.few (omega (arith, w.if-most-reports.false, w.how_many-many.ensures, S.many)) (capacity (goal.at.loop-i-preserved c).At-loop-i) c.if-tag-ne0.room (w.room-is ∙ w.put_tagged.ensures) (omega (arith, w.count-is, w.how_many-many.ensures, S.many))
+      | else-tag-ne0 w ↦ rw w.room-is (going_quiet c.loop-i.invariant h (reported (goal.at.loop-i-preserved c).After-get16-tag) S.labels_so L.reached t.target next hops L.target_is further
+    (none_tagged (edition_of a.word) a.image.now (268 + 2 * get_or a.firsts.now t.target 0) c.get16-tag.result w.if-tag-ne0.false) w.count-is)
     ]
 
 pub overflow_cast-result-2 : goal.overflow_cast-result-2
