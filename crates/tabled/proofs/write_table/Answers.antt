@@ -3,7 +3,6 @@ use mathlib.Core.Path.{◌≡◌, refl, ap, ◌∙◌}
 use mathlib.Core.List.{List}
 use Prim.Native.Nat.{ℕ, ◌+◌, ◌*◌, ◌<◌}
 use native.Mathlib.Omega.{arith}
-use borrow.Author.Rules.{rules}
 use lib.ListN.{length, get_or, replicate}
 use Rattle.paper.specs.Strings.{rules, tabulated}
 use Rattle.paper.specs.Operations.{filled}
