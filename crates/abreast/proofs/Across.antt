@@ -1,10 +1,9 @@
 -- One state in its turn, in the words of the view: its row keeps what its chain gives for the two classes, and none of its entries of them is needless.
-use mathlib.Core.Path.{◌≡◌, refl, sym, ap, subst, ◌∙◌}
-use mathlib.Core.Bool.{true, false}
+use mathlib.Core.Path.{◌≡◌, refl, sym, ap, ◌∙◌}
+use mathlib.Core.Bool.{true}
 use mathlib.Core.Option.{Option, none, some}
 use mathlib.Core.List.{List}
 use Prim.Native.Nat.{ℕ, ◌+◌, ◌-◌, ◌*◌, ◌≤◌, ◌<◌}
-use native.Mathlib.Decide.{ℕ_discrete}
 use native.Mathlib.Omega.{arith}
 use lib.Dec.{eqb}
 use lib.ListN.{get_or}
@@ -14,7 +13,7 @@ use Rattle.paper.specs.View.{View, stored, default_gives, same_as_default, any_e
 use Rattle.paper.proofs.Below.{any_found}
 use Rattle.paper.proofs.Tests.{none≢some}
 use Rattle.paper.proofs.Rising.{Rises, full_row}
-use Rattle.abreast.specs.Laid.{head_class_of, class_in_of, next_in, cell_of, Kept}
+use Rattle.abreast.specs.Laid.{head_class_of, class_in_of, next_in, Kept}
 use Rattle.abreast.specs.Turned.{Turned}
 use Rattle.abreast.specs.Keeps.{Keeps, Fits, Stands, RowKeeps, Needed}
 use Rattle.abreast.proofs.Cursors.{stored_entry}

@@ -9,10 +9,9 @@ use native.Mathlib.Decide.{ℕ_discrete, dec_lt}
 use native.Mathlib.Omega.{arith}
 use lib.ListN.{get_or}
 use Rattle.paper.specs.View.{View, any_entry, same_as_default}
-use Rattle.abreast.specs.Rows.{Elsewhere}
 use Rattle.abreast.specs.Laid.{head_class_of, Waits, Kept}
 use Rattle.abreast.specs.Turned.{Turned, Long}
-use Rattle.abreast.specs.Keeps.{Keeps, Fits, Ordered, Above, StandsIn, RowKeeps, Needed, Bottom, Across}
+use Rattle.abreast.specs.Keeps.{Fits, Ordered, Above, StandsIn, RowKeeps, Needed, Bottom, Across}
 use Rattle.abreast.proofs.Keeping.{Falls, keeps_later, falls_small}
 use Rattle.abreast.proofs.Standing.{stands_waits}
 use Rattle.abreast.proofs.Across.{turn_found, turn_needed, turn_keeps, turn_stands}

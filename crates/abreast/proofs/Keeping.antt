@@ -1,17 +1,14 @@
 -- What a row keeps by what the state stores and by the row it fell from.
-use mathlib.Core.Path.{◌≡◌, refl, sym, ap, ◌∙◌}
-use mathlib.Core.Bool.{Bool, true, false}
+use mathlib.Core.Path.{◌≡◌, refl, sym, ap}
 use mathlib.Core.Option.{Option, none, some}
 use Prim.Native.Nat.{ℕ, suc, ◌+◌, ◌≤◌, ◌<◌}
 use native.Mathlib.Decide.{dec_lt}
-use native.Mathlib.Numerals.{add-one}
 use native.Mathlib.Omega.{arith}
 use lib.Dec.{eqb}
 use borrow.Author.Tests.{ne_eqb}
-use Rattle.paper.specs.View.{View, Found, stored, gives, find, default_gives}
+use Rattle.paper.specs.View.{View, Found, stored, gives, default_gives}
 use Rattle.paper.proofs.Look.{serves_own, serves_on, serves_look}
-use Rattle.paper.proofs.Tests.{none≢some}
-use Rattle.abreast.specs.Keeps.{Served, Keeps}
+use Rattle.abreast.specs.Keeps.{Keeps}
 
 module _ (v : View) where
   -- What the row holds that a state falls from: its default's, or what row 512 has.

@@ -1,6 +1,5 @@
 -- The rows of an image opened one after the other: the row that each falls from, and its entries, which wait where they begin.
-use mathlib.Core.Path.{◌≡◌, refl, sym, ap, ◌∙◌}
-use mathlib.Core.Option.{Option, none, some}
+use mathlib.Core.Path.{◌≡◌, refl, ap, ◌∙◌}
 use mathlib.Core.List.{List}
 use Prim.Native.Nat.{ℕ, ◌+◌, ◌*◌, ◌≤◌, ◌<◌}
 use native.Mathlib.Decide.{ℕ_discrete}
@@ -9,13 +8,13 @@ use lib.ListN.{length, get_or, set, length-set}
 use lib.Seq.{get_or-set_same, get_or-set_other}
 use Rattle.paper.specs.Words.{number16}
 use Rattle.paper.specs.View.{View}
-use Rattle.paper.specs.Image.{records_at_of, default, count, entry_at, image_view}
+use Rattle.paper.specs.Image.{default, count, entry_at, image_view}
 use Rattle.image.specs.Passed.{Passed}
 use Rattle.image.specs.Forms.{default_of}
 use Rattle.image.specs.declared.Fallback.{Fallback}
 use Rattle.image.specs.declared.Fallback.TheVariants.{Root, FallsTo}
 use Rattle.image.proofs.Begins.{next_begin, begin_in}
-use Rattle.abreast.specs.Laid.{head_class_of, class_in_of, next_in}
+use Rattle.abreast.specs.Laid.{head_class_of}
 use Rattle.abreast.specs.Keeps.{Above, Stands, StandsIn, in_one}
 use Rattle.abreast.specs.Opened.{row_of, row_above_of, Opened}
 use Rattle.abreast.proofs.Standing.{stands_first}

@@ -1,18 +1,15 @@
 -- The entries that wait for the two classes are those of the view, and after a turn those of the next two wait.
-use mathlib.Core.Path.{◌≡◌, refl, sym, ap, ◌∙◌}
-use mathlib.Core.Bool.{true, false}
-use mathlib.Core.Option.{Option, none, some}
+use mathlib.Core.Path.{◌≡◌, ap, ◌∙◌}
 use mathlib.Core.List.{List}
 use Prim.Native.Nat.{ℕ, suc, ◌+◌, ◌-◌, ◌*◌, ◌≤◌, ◌<◌}
 use native.Mathlib.Decide.{ℕ_discrete, dec_lt}
 use native.Mathlib.Nat.{zero-add}
 use native.Mathlib.Omega.{arith}
-use lib.ListN.{length, get_or}
+use lib.ListN.{length}
 use Rattle.paper.specs.Words.{number16}
-use Rattle.paper.specs.View.{View, stored}
+use Rattle.paper.specs.View.{View}
 use Rattle.paper.proofs.Rising.{Rises, ahead}
 use Rattle.abreast.specs.Laid.{head_class_of, class_in_of, next_in, Waits}
-use Rattle.abreast.specs.Turned.{Turned}
 use Rattle.abreast.specs.Keeps.{Cursor, Stands}
 use Rattle.abreast.proofs.Cursors.{cursor_start}
 

@@ -3,13 +3,12 @@ use mathlib.Core.Path.{◌≡◌, refl, sym, ap, ◌∙◌}
 use mathlib.Core.Logic.{◌⊎◌, inl, inr}
 use mathlib.Core.List.{List}
 use Prim.Native.Nat.{ℕ, ◌+◌, ◌-◌, ◌*◌, ◌≤◌, ◌<◌}
-use native.Mathlib.Decide.{dec_lt}
 use native.Mathlib.Omega.{arith}
-use lib.ListN.{length, get_or, set}
+use lib.ListN.{get_or, set}
 use lib.Seq.{get_or-set_same, get_or-set_other}
 use Rattle.paper.specs.Words.{number16}
-use Rattle.abreast.specs.Rows.{Elsewhere, Fell}
-use Rattle.abreast.specs.Laid.{head_class_of, class_in_of, next_in, cell_of, Waits, Overlaid, Kept, AllLaid}
+use Rattle.abreast.specs.Rows.{Fell}
+use Rattle.abreast.specs.Laid.{head_class_of, class_in_of, cell_of, Waits, Kept, AllLaid}
 use Rattle.abreast.specs.Turned.{Turned, Long}
 use Rattle.abreast.proofs.Laying.{head_some}
 

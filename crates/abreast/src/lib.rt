@@ -2,6 +2,8 @@
 //
 // Row s is the cells 2s and 2s + 1, one for each of the classes: the next state that the chain of s gives, and 1024 more than the hops. Row 512 is what a root falls
 // to: 65535 and 0, never written. A class that is not below k is stored by nobody, so its cells count below 1024.
+#![tactic(auto)]
+
 ghost use Rattle.std.specs.Prelude.{◌≡◌, true, false, ℕ, ◌+◌, ◌*◌, ◌≤◌, ◌<◌, length, get_or};
 ghost use Rattle.paper.specs.View.{any_entry, same_as_default};
 ghost use Rattle.paper.specs.Image.{image_view};

@@ -1,4 +1,6 @@
 // What the operations answer, as Rattle and C see it.
+#![tactic(auto)]
+
 ghost use Rattle.std.specs.Prelude.{◌≡◌};
 
 // What compact, write, expand and the moves answer: 0 or the refusal's number, and the length of the result.

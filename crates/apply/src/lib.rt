@@ -1,5 +1,7 @@
 // Apply: image and patch into a new image. Between two states that the patch lists records and entries are copied from the image at once; depth and worst are the patch's,
 // which its judge has found right.
+#![tactic(auto)]
+
 ghost use Rattle.std.specs.Prelude.{◌≡◌, ◌+◌, ◌*◌, ◌≤◌, length};
 ghost use Rattle.paper.specs.Below.{sum, each};
 ghost use Rattle.paper.specs.Image.{states, entries, image_length_of};

@@ -1,4 +1,6 @@
 // The best pair of one weight that can be added, in an order that goes by the distances of the moment.
+#![tactic(auto)]
+
 ghost use Rattle.std.specs.Prelude.{◌≡◌, ◌≤◌, ◌<◌};
 ghost use Rattle.pairs.specs.Keys.{key_in, fits_in};
 ghost use Rattle.best.specs.Longs.{ByTree, LongestIn};

@@ -1,4 +1,6 @@
 // Writes images: the operations write and compact.
+#![tactic(auto)]
+
 ghost use Rattle.std.specs.Prelude.{◌≡◌};
 ghost use Rattle.paper.specs.View.{depth_of};
 ghost use Rattle.paper.specs.Promises.{Writes, Compacts};

@@ -1,4 +1,5 @@
 // The program `cases`: the cases of the definition paper that are not starred, run on T from standard input and compared; and check words by themselves.
+#![tactic(auto)]
 
 // Prints what was tried and whether it came out right.
 fn say(tried: &[u8], right: bool) {

@@ -1,7 +1,7 @@
 -- The hops of a state for a class, by what it stores and the hops of its default.
 use mathlib.Core.Path.{◌≡◌, ap}
 use mathlib.Core.Option.{none, some}
-use Prim.Native.Nat.{ℕ, suc, ◌+◌, ◌≤◌, ◌<◌}
+use Prim.Native.Nat.{ℕ, ◌+◌, ◌≤◌, ◌<◌}
 use native.Mathlib.Numerals.{add-one}
 use native.Mathlib.Omega.{arith}
 use Rattle.paper.specs.View.{View, stored, look}

@@ -1,4 +1,6 @@
 // The states each after its default, the depth, and for one class what every chain gives and after how many hops.
+#![tactic(auto)]
+
 ghost use Rattle.std.specs.Prelude.{◌≡◌, false, ℕ, ◌≤◌, ◌<◌, length, get_or};
 ghost use Rattle.std.proofs.Math.Option.{some};
 ghost use Rattle.paper.specs.Below.{any};

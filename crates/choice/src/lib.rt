@@ -1,4 +1,6 @@
 // The defaults of a table in every order: toward the start, or by the weights of its pairs toward the roots of a forest.
+#![tactic(auto)]
+
 ghost use Rattle.std.specs.Prelude.{◌≡◌};
 ghost use Rattle.paper.specs.Table.{states, classes};
 ghost use Rattle.paper.specs.Defaults.{defaults};

@@ -1,4 +1,6 @@
 // The classes of a word list: bytes in no string share class 0 if there are any, and the others follow in byte order.
+#![tactic(auto)]
+
 ghost use Rattle.std.specs.Prelude.{◌≡◌, false, not, ◌||◌, List, ℕ, ◌+◌, ◌≤◌, ◌<◌, length, get_or};
 ghost use Rattle.paper.specs.Below.{any, bit};
 ghost use Rattle.paper.specs.Strings as given;

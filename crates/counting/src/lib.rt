@@ -1,4 +1,6 @@
 // The two columns of counts for the bytes of a payload, and their lines.
+#![tactic(auto)]
+
 ghost use Rattle.std.specs.Prelude.{◌≡◌, ◌+◌, ◌*◌, ◌≤◌, ◌<◌, length, get_or, set};
 ghost use Rattle.paper.specs.Below.{each};
 ghost use Rattle.image.specs.Laid.{Ready};

@@ -10,7 +10,6 @@ use lib.Seq.{length-take-le}
 use Rattle.paper.specs.Below.{any, sum, differ}
 use Rattle.paper.specs.Words.{Bytes}
 use Rattle.paper.specs.Altered.{Altered}
-use Rattle.paper.specs.Refusals.{first}
 use Rattle.paper.specs.View.{view_grounds}
 use Rattle.paper.specs.Image as image
 use Rattle.paper.specs.Image.{image_grounds}

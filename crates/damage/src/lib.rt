@@ -1,1 +1,2 @@
 // Laws of damage: an image cut short or altered in one byte is refused. There is no code here.
+#![tactic(auto)]

@@ -1,4 +1,6 @@
 // What ends an image: its length, the trailer and the check word.
+#![tactic(auto)]
+
 ghost use Rattle.std.specs.Prelude.{◌≡◌, ◌+◌, ◌%◌, ◌≤◌, ◌<◌, ◌^◌, length, take};
 ghost use Rattle.paper.specs.Words.{bytes16, words, check_word_of};
 ghost use Rattle.paper.specs.Image.{image_length_of};

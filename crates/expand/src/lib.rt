@@ -1,4 +1,6 @@
 // Expand: an image into the table that it stands for. The rows are set down in the room itself, that of each state after that of its default.
+#![tactic(auto)]
+
 ghost use Rattle.std.specs.Prelude.{◌≡◌, ◌≤◌, length};
 ghost use Rattle.paper.specs.Image.{states, classes};
 ghost use Rattle.paper.specs.Results.{table_of};

@@ -1,4 +1,6 @@
 // The figures of a table compacted in order 0 with a path bound, read out of the image itself.
+#![tactic(auto)]
+
 ghost use Rattle.std.specs.Prelude.{◌≡◌};
 ghost use Rattle.paper.specs.Below.{bit, given};
 ghost use Rattle.paper.specs.Image.{states, depth, worst, entries};

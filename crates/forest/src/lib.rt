@@ -1,4 +1,6 @@
 // The bounded forest by the weights of pairs, and the defaults that it gives.
+#![tactic(auto)]
+
 ghost use Rattle.std.specs.Prelude.{◌≡◌, ◌*◌, ◌≤◌, ◌<◌};
 ghost use Rattle.weights.specs.Weighed.{weight_in};
 ghost use Rattle.weights.specs.Named.{Named};

@@ -1,4 +1,6 @@
 // The pairs of states taken by falling weight, each added or dropped for good.
+#![tactic(auto)]
+
 ghost use Rattle.std.specs.Prelude.{◌*◌, ◌≤◌, ◌<◌};
 ghost use Rattle.paper.specs.Forest.{rest, falling};
 ghost use Rattle.trees.proofs.Best.{level_of};

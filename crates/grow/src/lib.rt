@@ -1,4 +1,6 @@
 // The names of the states: the strings, in order, are put in byte by byte, and each beginning that is new becomes the next state.
+#![tactic(auto)]
+
 ghost use Rattle.std.specs.Prelude.{◌≡◌, List, ℕ, ◌+◌, ◌≤◌, ◌<◌, length, get_or};
 ghost use Rattle.paper.specs.Words.{byte_at};
 ghost use Rattle.paper.specs.Strings.{rules, names, class_of};

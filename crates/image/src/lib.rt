@@ -1,4 +1,6 @@
 // An image as its parts, found from its back: records, a state's entries, one step of look-up, and the look-up along the defaults.
+#![tactic(auto)]
+
 ghost use Rattle.std.specs.Prelude.{◌≡◌, ◌+◌, ◌*◌, ◌/◌, ◌≤◌, ◌<◌, length};
 ghost use Rattle.paper.specs.View.{look};
 ghost use Rattle.paper.specs.Image.{states, classes, entries, records_at_of, entries_part_of, image_view};

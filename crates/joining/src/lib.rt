@@ -1,4 +1,6 @@
 // Two trees of a forest joined by a pair of states.
+#![tactic(auto)]
+
 ghost use Rattle.std.specs.Prelude.{◌+◌, ◌≤◌, ◌<◌, get_or};
 ghost use Rattle.joining.specs.Filled.{Replaced};
 ghost use Rattle.joining.specs.Rooted.{Low, Climbed, Turned};

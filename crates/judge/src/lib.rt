@@ -1,4 +1,6 @@
 // Judges an image: 0, or the number of the first ground on which it is refused.
+#![tactic(auto)]
+
 ghost use Rattle.std.specs.Prelude.{◌≡◌, ◌||◌, ◌+◌, ◌-◌, ◌*◌, ◌%◌, ◌≤◌, ◌<◌, ◌^◌, length, take};
 ghost use Rattle.paper.specs.Below.{differ, outside};
 ghost use Rattle.paper.specs.Words.{words, check_word_of};

@@ -1,4 +1,6 @@
 // Judges a patch against an image: 0, or the number of the first ground on which it is refused.
+#![tactic(auto)]
+
 ghost use Rattle.paper.specs.Promises.{JudgesPatch};
 ghost use Rattle.facts.proofs.ImageFacts.{AcceptedImage};
 

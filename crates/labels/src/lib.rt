@@ -1,4 +1,6 @@
 // The edition, n and the labels of a table or an image, wherever the labels begin: read of the first word, counted, tested for ground 19, and found.
+#![tactic(auto)]
+
 ghost use Rattle.std.specs.Prelude.{◌≡◌, ◌+◌, ◌*◌, ◌≤◌, ◌<◌, ltb, length};
 ghost use Rattle.paper.specs.Below.{any, sum};
 ghost use Rattle.paper.specs.Labels.{edition_of, states_in_word, label_count, labels_behind, counts_bad_of, labels_bad_of};

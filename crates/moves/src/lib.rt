@@ -1,4 +1,6 @@
 // Moves images across the editions: the operations forward and back. Nothing is computed anew: depth, worst, records and entries are copied as they stand.
+#![tactic(auto)]
+
 ghost use Rattle.std.specs.Prelude.{◌≡◌, ◌+◌, ◌*◌, ◌≤◌, length};
 ghost use Rattle.paper.specs.Labels.{one, two};
 ghost use Rattle.paper.specs.Image.{edition, states, entries, labels, behind, image_length_of};

@@ -1,4 +1,6 @@
 // The names with which the reduction begins: each state that is reached is named by the smallest reached state with the same labels, the others by 65535. The states that name a block are kept in the order of their labels, so that each state is held to a few of them only.
+#![tactic(auto)]
+
 ghost use Rattle.std.specs.Prelude.{◌≡◌, ◌+◌, ◌*◌, ◌≤◌, ◌<◌, length};
 ghost use Rattle.paper.specs.Words.{number16};
 ghost use Rattle.paper.specs.Labels.{edition_of};

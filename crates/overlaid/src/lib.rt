@@ -1,5 +1,7 @@
 // Grounds 11, 12 and 13 of an image with a patch laid over it, over all n states: a patch of one state can close a ring through others, make an entry of another state
 // needless and change depth and worst far away. The sweep is the image's, two classes at a time; only where the entries of a state wait is chosen for each state.
+#![tactic(auto)]
+
 ghost use Rattle.std.specs.Prelude.{◌≡◌, true, false, ℕ, ◌≤◌, ◌<◌, length};
 ghost use Rattle.paper.specs.Below.{any};
 ghost use Rattle.paper.specs.Refusals.{first};

@@ -1,4 +1,6 @@
 // What is asked of a pair of states: whether it can be added, which is the next of one weight in a row, and the number by which an order goes among pairs of equal weight.
+#![tactic(auto)]
+
 ghost use Rattle.std.specs.Prelude.{◌≡◌, ◌≤◌, ◌<◌};
 ghost use Rattle.weights.specs.Weighed.{weight_in};
 ghost use Rattle.weights.specs.Next.{Next};

@@ -4,7 +4,7 @@ use mathlib.Core.Bool.{◌||◌}
 use mathlib.Core.Logic.{◌⊎◌}
 use mathlib.Core.List.{List, []}
 use Prim.Native.Nat.{ℕ, ◌<◌}
-use lib.Dec.{ltb, eqb}
+use lib.Dec.{eqb}
 use lib.ListN.{length, get_or}
 use Rattle.paper.specs.Below.{any, differ, outside}
 use Rattle.paper.specs.Strings as list

@@ -1,4 +1,6 @@
 // A patch as its parts, found from its back as in an image: which states it lists, its records and its entries.
+#![tactic(auto)]
+
 ghost use Rattle.std.specs.Prelude.{◌≡◌, ◌||◌, ◌+◌, ◌*◌, ◌≤◌, ◌<◌, leb, length};
 ghost use Rattle.paper.specs.Below.{any};
 ghost use Rattle.paper.specs.Patch as patch;

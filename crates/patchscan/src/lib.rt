@@ -1,5 +1,7 @@
 // The patched scan: image, patch, state, payload, room for reports. It is the scan, with each state's default and entries taken from the patch where it lists the state;
 // where they stand is found once for each state.
+#![tactic(auto)]
+
 ghost use Rattle.std.specs.Prelude.{◌≡◌, ◌≤◌, ◌<◌, length};
 ghost use Rattle.paper.specs.Labels.{edition_of};
 ghost use Rattle.paper.specs.View.{look};

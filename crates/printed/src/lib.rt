@@ -1,4 +1,6 @@
 // The text that the program `bounds` prints of a table, every byte of it promised, and the program itself but for its `main`.
+#![tactic(auto)]
+
 ghost use Rattle.std.specs.Prelude.{◌≡◌, [], ◌∷◌, ◌++◌, ◌+◌, ◌≤◌, length, take};
 ghost use Rattle.io.specs.Counts.{IsPrefixLen};
 ghost use Rattle.paper.specs.Operations.{judge_table_of};

@@ -1,4 +1,6 @@
 // Reduce: a table into the smallest table with the same reports. States that the start does not reach are left out, states that no payload distinguishes are one.
+#![tactic(auto)]
+
 ghost use Rattle.std.specs.Prelude.{◌≡◌, ◌+◌, ◌*◌, ◌≤◌, ◌<◌, eqb, length};
 ghost use Rattle.paper.specs.Below.{bit};
 ghost use Rattle.paper.specs.Words.{number16};

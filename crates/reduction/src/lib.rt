@@ -1,1 +1,2 @@
 // Laws of the reduction: see proofs.
+#![tactic(auto)]

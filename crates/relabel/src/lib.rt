@@ -1,4 +1,6 @@
 // The labels of the one edition written as the other has them.
+#![tactic(auto)]
+
 ghost use Rattle.std.specs.Prelude.{◌≡◌, ◌+◌, ◌*◌, ◌≤◌, length};
 ghost use Rattle.paper.specs.Below.{each, sum};
 ghost use Rattle.paper.specs.Words.{all16};

@@ -1,4 +1,6 @@
 // Rewrite: an image without its defaults that share fewer than two classes. What stays is copied; a state that becomes a root gets its whole row.
+#![tactic(auto)]
+
 ghost use Rattle.std.specs.Prelude.{◌≡◌, ◌+◌, ◌*◌, ◌≤◌, ◌<◌, length, get_or};
 ghost use Rattle.paper.specs.Below.{each};
 ghost use Rattle.paper.specs.Table as table;

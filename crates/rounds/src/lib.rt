@@ -1,4 +1,6 @@
 // The rounds of the reduction: from the names by labels to the names after n rounds. A state's name is the smallest reached state of its block, 65535 where the state is not reached.
+#![tactic(auto)]
+
 ghost use Rattle.std.specs.Prelude.{◌≡◌, ◌≤◌, ◌<◌, length, get_or};
 ghost use Rattle.paper.specs.Below.{any, differ};
 ghost use Rattle.paper.specs.Table.{states, classes};

@@ -1,4 +1,6 @@
 // Failure links and rows of next states of a word list, by class, filled by rising length of the names.
+#![tactic(auto)]
+
 ghost use Rattle.std.specs.Prelude.{◌≡◌, cond, List, ℕ, ◌+◌, ◌*◌, ◌≤◌, ◌<◌, eqb, length, get_or, set};
 ghost use Rattle.paper.specs.Strings.{Rule};
 ghost use Rattle.paper.proofs.Filled as holds;

@@ -1,4 +1,6 @@
 // What a scan over any look-up does before its loop and with its reports; the laws of the loop stand in the proofs.
+#![tactic(auto)]
+
 ghost use Rattle.std.specs.Prelude.{◌≡◌, [], ◌∷◌, ◌+◌, ◌*◌, ◌≤◌, length};
 ghost use Rattle.paper.specs.Scan.{report_bytes};
 ghost use Rattle.paper.specs.Refusals.{first};

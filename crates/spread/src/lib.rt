@@ -1,4 +1,6 @@
 // The parts of the table of an image set down in a room: what stands before the rows, and the rows, that of each state after that of its default.
+#![tactic(auto)]
+
 ghost use Rattle.std.specs.Prelude.{◌≡◌, ℕ, ◌+◌, ◌*◌, ◌/◌, ◌≤◌, ◌<◌, length, get_or};
 ghost use Rattle.std.proofs.Math.Option.{some};
 ghost use Rattle.paper.specs.Image.{states, default_from_of};

@@ -1,1 +1,2 @@
 // Laws of word lists alone: there is no code here.
+#![tactic(auto)]

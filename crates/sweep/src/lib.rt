@@ -1,4 +1,6 @@
 // Grounds 11, 12 and 13 of an image that has passed the first ten: two classes at a time, the states each after its default, so that every entry is read once.
+#![tactic(auto)]
+
 ghost use Rattle.std.specs.Prelude.{◌≡◌, false, ◌+◌, ◌≤◌, ◌<◌, length};
 ghost use Rattle.paper.specs.Below.{any};
 ghost use Rattle.paper.specs.Refusals.{first};

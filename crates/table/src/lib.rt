@@ -1,4 +1,6 @@
 // Judges a plain table: 0, or the number of the first ground on which it is refused.
+#![tactic(auto)]
+
 ghost use Rattle.std.specs.Prelude.{◌≡◌, ◌||◌, not, ◌+◌, ◌≤◌, ◌<◌, leb, eqb, length};
 ghost use Rattle.paper.specs.Below.{any, differ, outside};
 ghost use Rattle.paper.specs.Words.{byte_at};

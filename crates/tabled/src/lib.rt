@@ -1,4 +1,6 @@
 // The table of a word list to which the grounds 26, 27 and 19 do not apply: its names, its rows by failure links, from short names to long ones, and its bytes.
+#![tactic(auto)]
+
 ghost use Rattle.std.specs.Prelude.{◌≡◌, [], ◌∷◌, ◌≤◌, ltb, length};
 ghost use Rattle.paper.specs.Refusals.{first};
 ghost use Rattle.paper.specs.Strings as given;

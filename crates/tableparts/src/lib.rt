@@ -1,4 +1,6 @@
 // Writes the table of a word list, part by part in their order.
+#![tactic(auto)]
+
 ghost use Rattle.std.specs.Prelude.{◌≡◌, ◌+◌, ◌*◌, ◌≤◌, ◌<◌, length};
 ghost use Rattle.paper.specs.Below.{each};
 ghost use Rattle.paper.specs.Operations.{filled};

@@ -1,4 +1,6 @@
 // Strings: a word list into the table after Aho and Corasick.
+#![tactic(auto)]
+
 ghost use Rattle.paper.specs.Promises.{Tabulates};
 
 use answers::Built;

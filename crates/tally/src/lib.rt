@@ -1,4 +1,6 @@
 // What the image of a table with defaults will hold: the entries that each state keeps.
+#![tactic(auto)]
+
 ghost use Rattle.std.specs.Prelude.{◌≡◌, ◌≤◌, ◌<◌, get_or};
 ghost use Rattle.paper.specs.Below.{any, sum};
 ghost use Rattle.paper.specs.Image.{default_from_of};

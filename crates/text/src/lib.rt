@@ -1,4 +1,6 @@
 // Text put into lent bytes: pieces, numbers in decimal, lines of numbers, and the lines of an input that is refused. Each function answers the place behind what it put.
+#![tactic(auto)]
+
 ghost use Rattle.std.specs.Prelude.{[], ◌∷◌, ◌<◌, length};
 ghost use Rattle.paper.specs.Text.{decimal, line, refused_line, too_long_line};
 ghost use Rattle.text.specs.Puts.{Holds, Puts};

@@ -1,4 +1,6 @@
 // The defaults of order 3: the level of each state, and for each the state of lower level that shares the most next states with it. Only pairs of two levels are compared.
+#![tactic(auto)]
+
 ghost use Rattle.std.specs.Prelude.{◌≡◌, ◌+◌, ◌≤◌, ◌<◌, length};
 ghost use Rattle.paper.specs.Table.{states, classes};
 ghost use Rattle.paper.specs.FallBack.{leads_to, toward_start};

@@ -1,4 +1,6 @@
 // An image opened once, as its bytes with its counts, and thin readers of it.
+#![tactic(auto)]
+
 ghost use Rattle.std.specs.Prelude.{◌≡◌, ◌+◌, ◌*◌, ◌<◌, length};
 ghost use Rattle.paper.specs.Words.{number16};
 ghost use Rattle.paper.specs.Image.{states, records_at_of};

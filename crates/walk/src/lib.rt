@@ -1,4 +1,6 @@
 // The plain walk: table, state, payload, room for reports. It is the scan without an image, so it makes no hops.
+#![tactic(auto)]
+
 ghost use Rattle.std.specs.Prelude.{◌≡◌, ◌≤◌, ◌<◌, length};
 ghost use Rattle.paper.specs.Words.{number16};
 ghost use Rattle.paper.specs.Table.{states, classes};

@@ -1,4 +1,6 @@
 // The weights of all pairs of states of a table, by which the orders 0 to 2 choose defaults, and the classes that a pair shares.
+#![tactic(auto)]
+
 ghost use Rattle.std.specs.Prelude.{◌≡◌, ◌+◌, ◌-◌, ◌*◌, ◌≤◌, ◌<◌, eqb, length};
 ghost use Rattle.paper.specs.Below.{bit};
 ghost use Rattle.paper.specs.Table.{shared};

@@ -1,4 +1,6 @@
 // The grounds of a word list, 26, 27 and 19: its shape, its labels, and how many strings end each string.
+#![tactic(auto)]
+
 ghost use Rattle.std.specs.Prelude.{◌≡◌, ◌+◌, ◌≤◌, ◌<◌, eqb, length};
 ghost use Rattle.paper.specs.Below.{any, how_many_of};
 ghost use Rattle.paper.specs.Strings as given;

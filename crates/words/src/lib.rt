@@ -1,4 +1,6 @@
 // Little-endian numbers in lent bytes, read and written, the largest of some, bytes copied, and the check word.
+#![tactic(auto)]
+
 ghost use Rattle.std.specs.Prelude.{◌≡◌, ◌+◌, ◌%◌, ◌^◌, ◌<◌, ◌≤◌, max, length, take, drop, slice_index};
 ghost use Rattle.paper.specs.Below.{largest as largest_of};
 ghost use Rattle.paper.specs.Words.{number16, number32, bytes16, bytes32, words, check_word_of};

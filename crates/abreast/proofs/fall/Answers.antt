@@ -1,5 +1,4 @@
 use mathlib.Core.Path.{◌≡◌, refl, subst}
-use Prim.Native.Nat.{◌-◌}
 use native.Mathlib.Omega.{arith}
 use Rattle.words.proofs.Put.{Put, put_none, put_more, put_read}
 use Rattle.abreast.proofs.Fallen.{put_fell}

@@ -59,8 +59,7 @@ counted_patch c = counts (accepted (goal.at.After-get32-q c).Else-number-ne0) (l
 
 -- The places of the records.
 setting : (c : After-records_at-own)
-    →
-    Setting (bytes (goal.at.After-records_at-own c).Else-number-ne0) (sent (goal.at.After-records_at-own c).Else-number-ne0) c.states_of-n.result c.get16-p.result c.records_at-records.result c.records_at-own.result
+    → Setting (bytes (goal.at.After-records_at-own c).Else-number-ne0) (sent (goal.at.After-records_at-own c).Else-number-ne0) c.states_of-n.result c.get16-p.result c.records_at-records.result c.records_at-own.result
 setting c =
     record {
       accepted = accepted (goal.at.After-records_at-own c).Else-number-ne0;
@@ -79,8 +78,7 @@ held_are c =
 
 -- The numbers are small.
 fitting : (c : After-behind-held)
-    →
-    Fitting (bytes (goal.at.After-behind-held c).Else-number-ne0) (sent (goal.at.After-behind-held c).Else-number-ne0) c.states_of-n.result c.behind-held.result c.total_of-total.result (patch.depth (sent (goal.at.After-behind-held c).Else-number-ne0)) (patch.worst (sent (goal.at.After-behind-held c).Else-number-ne0))
+    → Fitting (bytes (goal.at.After-behind-held c).Else-number-ne0) (sent (goal.at.After-behind-held c).Else-number-ne0) c.states_of-n.result c.behind-held.result c.total_of-total.result (patch.depth (sent (goal.at.After-behind-held c).Else-number-ne0)) (patch.worst (sent (goal.at.After-behind-held c).Else-number-ne0))
 fitting c = record { held_are = held_are c; total_is = c.total_of-total.ensures; depth_is = refl; worst_is = refl }
 
 -- The length that was reckoned is that of the applied image.
@@ -155,19 +153,18 @@ pub get16-worst-requires : goal.get16-worst-requires
 get16-worst-requires c = omega (arith, (accepted (goal.at.get16-worst-requires c).Else-number-ne0).long)
 
 pub fill-requires : goal.fill-requires
-fill-requires c =
-    (
-      setting (goal.at.fill-requires c).After-records_at-own,
-      record {
-        accepted = accepted (goal.at.fill-requires c).Else-number-ne0;
-        states_are = states_are (goal.at.fill-requires c).After-get32-q;
-        listed_are = listed_are (goal.at.fill-requires c).After-get32-q;
-        begin = c.begins_of-begins.ensures;
-        own_begin = c.begins_of-starts.ensures;
-      },
-      record { held_are = held_are (goal.at.fill-requires c).After-behind-held; total_is = c.total_of-total.ensures; depth_is = c.get16-depth.ensures; worst_is = c.get16-worst.ensures },
-      omega (arith, c.image_length-whole.ensures, c.if-room-whole.false),
-    )
+fill-requires c = (
+  setting (goal.at.fill-requires c).After-records_at-own,
+  record {
+    accepted = accepted (goal.at.fill-requires c).Else-number-ne0;
+    states_are = states_are (goal.at.fill-requires c).After-get32-q;
+    listed_are = listed_are (goal.at.fill-requires c).After-get32-q;
+    begin = c.begins_of-begins.ensures;
+    own_begin = c.begins_of-starts.ensures;
+  },
+  record { held_are = held_are (goal.at.fill-requires c).After-behind-held; total_is = c.total_of-total.ensures; depth_is = c.get16-depth.ensures; worst_is = c.get16-worst.ensures },
+  omega (arith, c.image_length-whole.ensures, c.if-room-whole.false),
+)
 
 pub returns : goal.returns
 returns c =

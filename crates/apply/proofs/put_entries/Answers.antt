@@ -53,8 +53,7 @@ patch_bytes c = fits_bytes c.args.x.now c.type_inv.x
 
 -- The next listed state is not before those that are done, and is one of the image.
 ahead : (c : After-state_at-s)
-    →
-    let t = c.args in
+    → let t = c.args in
     (c.loop-i.i < listed_states t.x.now) × (c.loop-i.done ≤ c.state_at-s.result) × (c.state_at-s.result < t.n)
 ahead c =
     let P = c.requires.0 in
@@ -118,15 +117,13 @@ run-placed c s h l free next e =
 
 -- The run up to the next listed state.
 gap : (c : After-state_at-s)
-    →
-    let begins = c.args.begins.now in
+    → let begins = c.args.begins.now in
     (get_or begins c.loop-i.done 0 ≤ get_or begins c.state_at-s.result 0) × (get_or begins c.state_at-s.result 0 + 12 ≤ length c.args.image.now)
 gap c = let (_, from, below) = ahead c in between (goal.at.After-state_at-s c).At-loop-i c.loop-i.done c.state_at-s.result from (omega arith)
 
 -- It is laid, whatever the room is after the copy.
 gap_placed : (c : After-state_at-s) (next : List ℕ)
-    →
-    let t = c.args in
+    → let t = c.args in
     let from = get_or t.begins.now c.loop-i.done 0 in
     let size = get_or t.begins.now c.state_at-s.result 0 - from in
     next ≡ placed c.loop-i.room c.loop-i.here (take size (drop from t.image.now))
@@ -137,16 +134,14 @@ gap_placed c next =
     (λ r u w. gap_unlisted c.requires.0.accepted.rises c.loop-i.invariant.0 h r u (omega (arith, c.state_at-s.ensures))) next
 
 run_laid : (c : After-copy)
-    →
-    let t = c.args in
+    → let t = c.args in
     let s = c.state_at-s.result in
     Laid t.room.now t.at (entry_bytes (view (goal.at.After-copy c).At-loop-i)) s c.copy.new.room (c.loop-i.here + (get_or t.begins.now s 0 - get_or t.begins.now c.loop-i.done 0))
 run_laid c = (gap_placed (goal.at.After-copy c).After-state_at-s c.copy.new.room c.copy.ensures).1
 
 -- It ends before place 600000.
 run_near : (c : After-copy)
-    →
-    let t = c.args in
+    → let t = c.args in
     c.loop-i.here + (get_or t.begins.now c.state_at-s.result 0 - get_or t.begins.now c.loop-i.done 0) ≤ 544288
 run_near c =
     let s = c.state_at-s.result in
@@ -154,8 +149,7 @@ run_near c =
 
 -- The part of the listed state in the patch: its size, that it stands there, and that it is the state's entries.
 listed : (c : After-copy)
-    →
-    let t = c.args in
+    → let t = c.args in
     let from = get_or t.own.now c.loop-i.i 0 in
     let end = get_or t.own.now (c.loop-i.i + 1) 0 in
     let row = entry_bytes (view (goal.at.After-copy c).At-loop-i) c.state_at-s.result in
@@ -176,16 +170,14 @@ listed c =
 
 -- There is room for it.
 listed-room : (c : After-copy)
-    →
-    let t = c.args in
+    → let t = c.args in
     let s = c.state_at-s.result in
     c.loop-i.here + (get_or t.begins.now s 0 - get_or t.begins.now c.loop-i.done 0) + length (entry_bytes (view (goal.at.After-copy c).At-loop-i) s) ≤ length c.copy.new.room
 listed-room c = laid_room (run_laid c) c.args.n (ahead (goal.at.After-copy c).After-state_at-s).2 (fits (goal.at.After-copy c).At-loop-i)
 
 -- What is laid with it.
 both_laid : (c : After-copy-in-loop-i)
-    →
-    let t = c.args in
+    → let t = c.args in
     let s = c.state_at-s.result in
     Laid t.room.now t.at (entry_bytes (view (goal.at.After-copy-in-loop-i c).At-loop-i)) (s + 1) c.copy-in-loop-i.new.room
     (c.loop-i.here + (get_or t.begins.now s 0 - get_or t.begins.now c.loop-i.done 0) + (get_or t.own.now (c.loop-i.i + 1) 0 - get_or t.own.now c.loop-i.i 0))
@@ -195,14 +187,12 @@ both_laid c =
 
 -- The rest behind the last listed state.
 rest : (c : After-loop-i)
-    →
-    let t = c.args in
+    → let t = c.args in
     (get_or t.begins.now c.loop-i.done 0 ≤ get_or t.begins.now t.n 0) × (get_or t.begins.now t.n 0 + 12 ≤ length t.image.now)
 rest c = between (goal.at.After-loop-i c).At-loop-i c.loop-i.done c.args.n c.loop-i.invariant.1 (omega arith)
 
 rest_placed : (c : After-loop-i) (next : List ℕ)
-    →
-    let t = c.args in
+    → let t = c.args in
     let from = get_or t.begins.now c.loop-i.done 0 in
     let size = get_or t.begins.now t.n 0 - from in
     next ≡ placed c.loop-i.room c.loop-i.here (take size (drop from t.image.now))
@@ -214,8 +204,7 @@ rest_placed c next =
 
 -- With it all are laid.
 all_laid : (c : After-copy-2)
-    →
-    let t = c.args in
+    → let t = c.args in
     Laid t.room.now t.at (entry_bytes (view (goal.at.After-copy-2 c).At-loop-i)) t.n c.copy-2.new.room (c.loop-i.here + (get_or t.begins.now t.n 0 - get_or t.begins.now c.loop-i.done 0))
 all_laid c = (rest_placed (goal.at.After-copy-2 c).After-loop-i c.copy-2.new.room c.copy-2.ensures).1
 

@@ -13,7 +13,7 @@ use Rattle.words.specs.Placed.{placed}
 use Rattle.words.proofs.Lent.{fits_bytes}
 use Rattle.words.proofs.Laid.{Laid, laid_none, laid_more}
 use Rattle.apply.proofs.Sizes.{record_size, records_size, few, long_image, long_patch}
-use Rattle.apply.proofs.Runs.{run, laid_run}
+use Rattle.apply.proofs.Runs.{laid_run}
 use Rattle.apply.proofs.Gaps.{Between, between_start, gap_unlisted, rest_unlisted, between_more}
 use Rattle.apply.proofs.Copied.{records_run, record_listed, records_wide}
 use Rattle.apply.proofs.put_records.Goals as goal
@@ -45,8 +45,7 @@ patch_bytes c = fits_bytes c.args.x.now c.type_inv.x
 
 -- The next listed state is not before those that are done, and is one of the image.
 ahead : (c : After-state_at-s)
-    →
-    let t = c.args in
+    → let t = c.args in
     (c.loop-i.i < listed_states t.x.now) × (c.loop-i.done ≤ c.state_at-s.result) × (c.state_at-s.result < t.n)
 ahead c =
     let S = c.requires.0 in
@@ -54,8 +53,7 @@ ahead c =
     (h, omega (arith, c.loop-i.invariant.0.ahead_are c.loop-i.i (omega arith) h, c.state_at-s.ensures), omega (arith, S.accepted.below c.loop-i.i h, c.state_at-s.ensures, S.states_are))
 
 run_laid : (c : After-copy)
-    →
-    let t = c.args in
+    → let t = c.args in
     Laid t.room.now t.at (record_bytes (view (goal.at.After-copy c).At-loop-i)) c.state_at-s.result c.copy.new.room (t.at + 4 * c.state_at-s.result)
 run_laid c =
     let S = c.requires.0 in
@@ -73,8 +71,7 @@ run_laid c =
 
 -- Behind the last listed state the rest is one run.
 rest_laid : (c : After-copy-2)
-    →
-    let t = c.args in
+    → let t = c.args in
     Laid t.room.now t.at (record_bytes (view (goal.at.After-copy-2 c).At-loop-i)) t.n c.copy-2.new.room (t.at + 4 * t.n)
 rest_laid c =
     let S = c.requires.0 in

@@ -1,5 +1,5 @@
 use mathlib.Core.Path.{◌≡◌, refl, ap, ◌∙◌}
-use Prim.Native.Nat.{ℕ, ◌+◌, ◌-◌, ◌*◌, ◌≤◌}
+use Prim.Native.Nat.{ℕ, ◌+◌, ◌*◌, ◌≤◌}
 use native.Mathlib.Omega.{arith}
 use lib.ListN.{length}
 use Rattle.paper.specs.Below.{sum}
@@ -30,8 +30,7 @@ record_in_lem c =
 
 -- What was read is the count of the listed state in the image.
 count_read : (c : After-get16)
-    →
-    c.get16.result ≡ listed_count c.args.image.now c.args.x.now c.loop-i.i
+    → c.get16.result ≡ listed_count c.args.image.now c.args.x.now c.loop-i.i
 unfolding image.count
 count_read c =
     c.get16.ensures ∙ ap (λ (at : ℕ). number16 c.args.image.now (at + 4 * c.state_at-s.result + 2)) c.requires.0.in_image

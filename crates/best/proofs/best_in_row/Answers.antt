@@ -1,4 +1,4 @@
-use Prim.Native.Nat.{ℕ, ◌≤◌, ◌<◌, ◌-◌}
+use Prim.Native.Nat.{ℕ, ◌≤◌, ◌<◌}
 use mathlib.Core.Path.{◌≡◌}
 use native.Mathlib.Omega.{arith}
 use native.Mathlib.Decide.{ℕ_discrete}
@@ -39,13 +39,13 @@ loop-v-preserved-then-weights-u c =
       omega (arith, c.loop-v-test.true),
       elim c.if-takes.branch [
         | then-takes+then-key-best w ↦ rw w.best-is (picked_better a.n fits key a.u l.v l.best.key l.best.u l.best.v l.invariant.2
-          l.invariant.0 c.loop-v-test.true t.result asked w.if-takes.true w.key_of-key.result w.key_of-key.ensures w.if-key-best.true)
-        | then-takes+else-key-best w ↦ 
-          let short = taken_short a.w a.w (get_or a.tree.now a.u 0) (get_or a.tree.now l.v 0)
-          (far a.u) (far l.v) a.bound t.result t.ensures w.if-takes.true in
-          let most = key_small a.order (far a.u) (far l.v) (get_or a.long.now a.u 0) (get_or a.long.now l.v 0) in
-          rw w.best-is (picked_worse a.n fits key a.u l.v l.best.key l.best.u l.best.v l.invariant.2
-          w.key_of-key.result w.key_of-key.ensures (omega (arith, most, short, w.key_of-key.ensures, c.ranges.bound)) w.if-key-best.false)
+            l.invariant.0 c.loop-v-test.true t.result asked w.if-takes.true w.key_of-key.result w.key_of-key.ensures w.if-key-best.true)
+        | then-takes+else-key-best w ↦
+            let short = taken_short a.w a.w (get_or a.tree.now a.u 0) (get_or a.tree.now l.v 0)
+            (far a.u) (far l.v) a.bound t.result t.ensures w.if-takes.true in
+            let most = key_small a.order (far a.u) (far l.v) (get_or a.long.now a.u 0) (get_or a.long.now l.v 0) in
+            rw w.best-is (picked_worse a.n fits key a.u l.v l.best.key l.best.u l.best.v l.invariant.2
+            w.key_of-key.result w.key_of-key.ensures (omega (arith, most, short, w.key_of-key.ensures, c.ranges.bound)) w.if-key-best.false)
         | else-takes w ↦ rw w.best-is (picked_unfit a.n fits key a.u l.v l.best.key l.best.u l.best.v l.invariant.2 t.result asked w.if-takes.false)
       ],
     )

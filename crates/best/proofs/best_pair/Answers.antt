@@ -1,4 +1,4 @@
-use Prim.Native.Nat.{◌<◌, ◌-◌}
+use Prim.Native.Nat.{◌<◌}
 use mathlib.Core.Path.{◌≡◌}
 use native.Mathlib.Omega.{arith}
 use borrow.Author.Rules.{rules}
@@ -33,14 +33,14 @@ loop-u-preserved c =
         | else-low-u w ↦ rw w.low-is l.invariant.1
       ],
       elim c.if-low-u.branch [
-        | then-low-u+then-row-best w ↦ 
-          let r = w.best_in_row-row.result in
-          rw (w.low-is, w.best-is) (searched_better a.n fits key small l.u a.floors l.low l.best.key l.best.u l.best.v l.invariant.2
-          long r.key r.u r.v w.best_in_row-row.ensures w.if-row-best.true)
-        | then-low-u+else-row-best w ↦ 
-          let r = w.best_in_row-row.result in
-          rw (w.low-is, w.best-is) (searched_worse a.n fits key small l.u a.floors l.low l.best.key l.best.u l.best.v l.invariant.2
-          long r.key r.u r.v w.best_in_row-row.ensures w.if-row-best.false)
+        | then-low-u+then-row-best w ↦
+            let r = w.best_in_row-row.result in
+            rw (w.low-is, w.best-is) (searched_better a.n fits key small l.u a.floors l.low l.best.key l.best.u l.best.v l.invariant.2
+            long r.key r.u r.v w.best_in_row-row.ensures w.if-row-best.true)
+        | then-low-u+else-row-best w ↦
+            let r = w.best_in_row-row.result in
+            rw (w.low-is, w.best-is) (searched_worse a.n fits key small l.u a.floors l.low l.best.key l.best.u l.best.v l.invariant.2
+            long r.key r.u r.v w.best_in_row-row.ensures w.if-row-best.false)
         | else-low-u w ↦ rw (w.low-is, w.best-is) (searched_skips a.n fits key small l.u a.floors l.low l.best.key l.best.u l.best.v l.invariant.2 w.if-low-u.false)
       ],
     )

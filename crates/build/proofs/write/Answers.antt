@@ -66,11 +66,10 @@ returns-then-list_bad c =
     (sym c.list_bad.ensures ∙ c.if-list_bad.true) c.not_built-then-list_bad.ensures.0 c.not_built-then-list_bad.ensures.1
 
 pub values_of-def-requires : goal.values_of-def-requires
-values_of-def-requires c =
-    (
-      omega (arith, counted (goal.at.values_of-def-requires c).After-states_of-n, (accepted_table c.args.table.now (accepted (goal.at.values_of-def-requires c).Else-judged-ne0)).few_states),
-      list_long c.args.defaults.now c.states_of-n.result (right (goal.at.values_of-def-requires c).Else-list_bad),
-    )
+values_of-def-requires c = (
+  omega (arith, counted (goal.at.values_of-def-requires c).After-states_of-n, (accepted_table c.args.table.now (accepted (goal.at.values_of-def-requires c).Else-judged-ne0)).few_states),
+  list_long c.args.defaults.now c.states_of-n.result (right (goal.at.values_of-def-requires c).Else-list_bad),
+)
 
 pub order_of-o-requires : goal.order_of-o-requires
 order_of-o-requires c =

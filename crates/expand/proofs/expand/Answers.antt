@@ -85,14 +85,13 @@ returns-then-room-length c =
     c.not_built-then-room-length.ensures.0 c.not_built-then-room-length.ensures.1
 
 pub fill-requires : goal.fill-requires
-fill-requires c =
-    (
-      accepted (goal.at.fill-requires c).Else-number-ne0,
-      omega (arith, states_are (goal.at.fill-requires c).After-states_of-n, held_is (goal.at.fill-requires c).After-behind),
-      states_are (goal.at.fill-requires c).After-states_of-n,
-      c.get16-k.ensures,
-      omega (arith, c.row_at-length.ensures, c.if-room-length.false),
-    )
+fill-requires c = (
+  accepted (goal.at.fill-requires c).Else-number-ne0,
+  omega (arith, states_are (goal.at.fill-requires c).After-states_of-n, held_is (goal.at.fill-requires c).After-behind),
+  states_are (goal.at.fill-requires c).After-states_of-n,
+  c.get16-k.ensures,
+  omega (arith, c.row_at-length.ensures, c.if-room-length.false),
+)
 
 pub overflow_cast-result : goal.overflow_cast-result
 overflow_cast-result c = omega (arith, size_small (goal.at.overflow_cast-result c).After-row_at-length)

@@ -1,4 +1,4 @@
-use Prim.Native.Nat.{◌<◌, ◌-◌}
+use Prim.Native.Nat.{◌<◌}
 use mathlib.Core.Path.{◌≡◌, sym, ◌∙◌}
 use native.Mathlib.Omega.{arith}
 use Rattle.forest.proofs.Settled.{settles_start, settles_past, settles_turned}
@@ -28,9 +28,9 @@ loop-x-preserved c =
       omega arith,
       elim c.if-is_root.branch [
         | then-is_root w ↦ rw w.parent-is (settles_turned c.args.n c.requires.0 f.d f.parent f.tree N.result N.ensures l.parent l.x xb l.invariant.1
-          (sym c.is_root.ensures ∙ w.if-is_root.true) w.turned_to-turned.result w.turned_to-turned.ensures.0 w.turned_to-turned.ensures.1)
+            (sym c.is_root.ensures ∙ w.if-is_root.true) w.turned_to-turned.result w.turned_to-turned.ensures.0 w.turned_to-turned.ensures.1)
         | else-is_root w ↦ rw w.parent-is (settles_past c.args.n c.requires.0 f.d f.parent f.tree N.result N.ensures l.parent l.x xb l.invariant.1
-          (sym c.is_root.ensures ∙ w.if-is_root.false))
+            (sym c.is_root.ensures ∙ w.if-is_root.false))
       ],
     )
 

@@ -50,10 +50,10 @@ loop-at-preserved c =
       omega arith,
       elim c.if-w-ne0.branch [
         | then-w-ne0 w ↦ subst held (sym w.f-is) (more w.take_weight-f.result.d w.take_weight-f.result.parent w.take_weight-f.result.tree
-          (rw (named.own at (omega arith) w.if-w-ne0.true) at w.take_weight-f.ensures))
+            (rw (named.own at (omega arith) w.if-w-ne0.true) at w.take_weight-f.ensures))
         | else-w-ne0 w ↦ subst held (sym w.f-is) (more f.d f.parent f.tree
-          (becomes_absent a.n (rest a.order a.n) a.bound (weight_in a.weights.now) at
-          (unseen_absent a.seen.now a.weights.now a.n at c.requires.0 some named w.if-w-ne0.false) f.d f.parent f.tree c.loop-at.invariant.1.becomes.whole))
+            (becomes_absent a.n (rest a.order a.n) a.bound (weight_in a.weights.now) at
+            (unseen_absent a.seen.now a.weights.now a.n at c.requires.0 some named w.if-w-ne0.false) f.d f.parent f.tree c.loop-at.invariant.1.becomes.whole))
       ],
     )
 

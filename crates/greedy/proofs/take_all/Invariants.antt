@@ -1,5 +1,5 @@
 -- The invariant of the loop: the weights above `at` are taken.
-use Prim.Native.Nat.{◌≤◌, ◌-◌}
+use Prim.Native.Nat.{◌≤◌}
 use Rattle.paper.specs.Forest.{rest}
 use Rattle.weights.specs.Weighed.{weight_in}
 use Rattle.greedy.proofs.Falls.{Falls}

@@ -1,4 +1,4 @@
-use Prim.Native.Nat.{◌+◌, ◌<◌, ◌-◌}
+use Prim.Native.Nat.{◌+◌, ◌<◌}
 use mathlib.Core.Path.{◌≡◌, sym, subst}
 use native.Mathlib.Omega.{arith}
 use borrow.Author.Rules.{rules}
@@ -19,8 +19,7 @@ tried c = c.loop-v-test.true
 
 -- Whether it is added was asked for its own weight.
 asked : (c : Joined-takes)
-    →
-    let a = c.args in
+    → let a = c.args in
     let l = c.loop-v in
     let u = c.loop-u.u in
     c.takes.result ≡ is_taken (weight_in a.weights.now u l.v) a.w (get_or l.f.tree u 0) (get_or l.f.tree l.v 0) (get_or l.f.d u 0) (get_or l.f.d l.v 0) a.bound
@@ -28,8 +27,7 @@ asked c = rw (c.loop-v.invariant.3 (tried c)) c.takes.ensures
 
 -- The pair that was tried is taken.
 turned : (c : Joined-takes)
-    →
-    let a = c.args in
+    → let a = c.args in
     let outer = c.loop-u in
     Becomes a.n a.bound (λ F. row a.n a.bound (weight_in a.weights.now) a.w outer.u F (c.loop-v.v + 1)) outer.f.d outer.f.parent outer.f.tree c.if-takes.f.d c.if-takes.f.parent c.if-takes.f.tree
 turned c =
@@ -40,9 +38,9 @@ turned c =
     let held : Forest → Type 0 = λ (g : Forest). Becomes a.n a.bound (λ F. row a.n a.bound (weight_in a.weights.now) a.w u F (l.v + 1)) f.d f.parent f.tree g.d g.parent g.tree in
     elim c.if-takes.branch [
       | then-takes w ↦ subst held (sym w.f-is) (row_added a.n a.bound (weight_in a.weights.now) a.w u f.d f.parent f.tree l.f.d l.f.parent l.f.tree
-    l.v l.invariant.0 (tried c) l.invariant.2 _ (asked c) w.if-takes.true w.join-f.result.d w.join-f.result.parent w.join-f.result.tree w.join-f.ensures)
+          l.v l.invariant.0 (tried c) l.invariant.2 _ (asked c) w.if-takes.true w.join-f.result.d w.join-f.result.parent w.join-f.result.tree w.join-f.ensures)
       | else-takes w ↦ subst held (sym w.f-is) (row_dropped a.n a.bound (weight_in a.weights.now) a.w u f.d f.parent f.tree l.f.d l.f.parent l.f.tree
-    l.v l.invariant.0 (tried c) l.invariant.2 _ (asked c) w.if-takes.false)
+          l.v l.invariant.0 (tried c) l.invariant.2 _ (asked c) w.if-takes.false)
     ]
 
 -- Where the ways meet the row is taken: it was full, or its pairs were tried one after the other.

@@ -1,5 +1,5 @@
 use mathlib.Core.Path.{refl}
-use Prim.Native.Nat.{◌+◌, ◌*◌, ◌-◌}
+use Prim.Native.Nat.{◌+◌, ◌*◌}
 use native.Mathlib.Omega.{arith}
 use lib.ListN.{length, set}
 use Rattle.paper.specs.Image.{entry_at}
@@ -14,8 +14,7 @@ sized c = sizes c.args.image.now c.requires.0 c.args.n c.records_at-records.resu
 
 -- What holds after a turn.
 turned : (c : After-get16)
-    →
-    let t = c.args in
+    → let t = c.args in
     Begun (λ q. entry_at t.image.now q 0) 513 (length t.image.now) t.n (c.loop-s.at + 4 * c.get16.result) (set c.loop-s.begins c.loop-s.s c.loop-s.at) (c.loop-s.s + 1)
 turned c =
     begun_more c.args.image.now c.requires.0 c.args.n c.records_at-records.result c.requires.1 c.records_at-records.ensures _ _ _ c.loop-s.invariant c.loop-s-test.true _ c.get16.ensures

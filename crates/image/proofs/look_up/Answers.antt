@@ -1,5 +1,5 @@
 use mathlib.Core.Path.{◌≡◌}
-use mathlib.Core.Logic.{inl, inr, ⊎_elim}
+use mathlib.Core.Logic.{inl, inr}
 use Prim.Native.Nat.{◌+◌, ◌*◌, ◌≤◌}
 use native.Mathlib.Omega.{arith}
 use lib.ListN.{length}
@@ -15,8 +15,7 @@ use Rattle.image.proofs.look_up.Goals.{in-FallsTo, in-Root, After-stored_in, At-
 
 -- The step over the part is the state's.
 step_here : (c : After-stored_in)
-    →
-    c.stored_in.result ≡ step_of (stored (image_view c.args.image.now) c.loop-t.s c.args.class)
+    → c.stored_in.result ≡ step_of (stored (image_view c.args.image.now) c.loop-t.s c.args.class)
 step_here c =
     step_of_part c.args.image.now c.requires.0.accepted c.loop-t.s c.loop-t.invariant.inside c.args.class c.entries_of-row.result.now c.stored_in.result c.entries_of-row.ensures c.stored_in.ensures
 

@@ -1,4 +1,4 @@
-use Prim.Native.Nat.{◌+◌, ◌/◌, ◌-◌}
+use Prim.Native.Nat.{◌+◌, ◌/◌}
 use native.Mathlib.Omega.{arith}
 use Rattle.image.proofs.Rows.{under_none, under_to, over_from}
 use Rattle.image.proofs.near.Goals as goal

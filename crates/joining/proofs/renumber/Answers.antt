@@ -1,4 +1,3 @@
-use Prim.Native.Nat.{◌-◌}
 use mathlib.Core.Path.{◌≡◌}
 use mathlib.Core.Logic.{inl, inr}
 use native.Mathlib.Omega.{arith}
@@ -13,11 +12,13 @@ loop-x-init c = (omega arith, record { long = search rules; so_far = replaced_st
 -- One state more is renumbered.
 pub loop-x-preserved : goal.loop-x-preserved
 loop-x-preserved c =
-    let l = c.loop-x in
-    (omega arith, replacing_more _ _ _ l.tree c.if-tree-x.tree l.x l.invariant.1 (omega arith) (elim c.if-tree-x.branch [
-      | then-tree-x w ↦ inl (w.if-tree-x.true, w.tree-is)
-      | else-tree-x w ↦ inr (w.if-tree-x.false, w.tree-is)
-    ]))
+    let l = c.loop-x in (
+      omega arith,
+      replacing_more _ _ _ l.tree c.if-tree-x.tree l.x l.invariant.1 (omega arith) (elim c.if-tree-x.branch [
+        | then-tree-x w ↦ inl (w.if-tree-x.true, w.tree-is)
+        | else-tree-x w ↦ inr (w.if-tree-x.false, w.tree-is)
+      ]),
+    )
 
 pub returns : goal.returns
 returns c = let e : c.loop-x.x ≡ c.args.n = omega arith in rw e at c.loop-x.invariant.1.so_far

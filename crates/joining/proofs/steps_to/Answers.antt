@@ -1,4 +1,3 @@
-use Prim.Native.Nat.{◌-◌}
 use native.Mathlib.Omega.{arith}
 use Rattle.joining.proofs.Climbing.{climbing_starts, climbing_goes, climbing_stops, climbing_ends}
 use Rattle.joining.proofs.steps_to.Goals as goal

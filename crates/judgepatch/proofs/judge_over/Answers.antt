@@ -43,8 +43,7 @@ not_22 : (c : Else-shape_bad) → shape_bad_of (X (goal.at.Else-shape_bad c).Aft
 not_22 c = sym c.shape_bad.ensures ∙ c.if-shape_bad.false
 
 pub past₂₂ : (c : Else-shape_bad)
-    →
-    Decided (judge_patch_of (B (goal.at.Else-shape_bad c).After-shape_bad) (X (goal.at.Else-shape_bad c).After-shape_bad)) ((23, differ (image_word (X (goal.at.Else-shape_bad c).After-shape_bad)) (image.check (B (goal.at.Else-shape_bad c).After-shape_bad))) ∷ from24 (B (goal.at.Else-shape_bad c).After-shape_bad) (X (goal.at.Else-shape_bad c).After-shape_bad) (states (B (goal.at.Else-shape_bad c).After-shape_bad)) (classes (B (goal.at.Else-shape_bad c).After-shape_bad)) (listed_states (X (goal.at.Else-shape_bad c).After-shape_bad)) (entries (X (goal.at.Else-shape_bad c).After-shape_bad)))
+    → Decided (judge_patch_of (B (goal.at.Else-shape_bad c).After-shape_bad) (X (goal.at.Else-shape_bad c).After-shape_bad)) ((23, differ (image_word (X (goal.at.Else-shape_bad c).After-shape_bad)) (image.check (B (goal.at.Else-shape_bad c).After-shape_bad))) ∷ from24 (B (goal.at.Else-shape_bad c).After-shape_bad) (X (goal.at.Else-shape_bad c).After-shape_bad) (states (B (goal.at.Else-shape_bad c).After-shape_bad)) (classes (B (goal.at.Else-shape_bad c).After-shape_bad)) (listed_states (X (goal.at.Else-shape_bad c).After-shape_bad)) (entries (X (goal.at.Else-shape_bad c).After-shape_bad)))
 past₂₂ c = passed (behind_image (B (goal.at.Else-shape_bad c).After-shape_bad) (X (goal.at.Else-shape_bad c).After-shape_bad) (accepted (goal.at.Else-shape_bad c).After-shape_bad)) (not_22 c)
 
 -- The patch has at least 22 bytes.

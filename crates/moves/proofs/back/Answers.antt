@@ -91,15 +91,14 @@ behind-held-requires c =
     (omega (arith, states_are (goal.at.behind-held-requires c).After-states_of-n, A.few_states), omega (arith, states_are (goal.at.behind-held-requires c).After-states_of-n, A.long))
 
 pub fill_back-requires : goal.fill_back-requires
-fill_back-requires c =
-    (
-      accepted (goal.at.fill_back-requires c).Else-judged-ne0,
-      edition_is (goal.at.fill_back-requires c).Else-word-lt32768,
-      states_are (goal.at.fill_back-requires c).After-states_of-n,
-      c.get32-m.ensures,
-      c.behind-held.ensures.0 ∙ behind_named (bytes (goal.at.fill_back-requires c).Else-judged-ne0) 268 (states_are (goal.at.fill_back-requires c).After-states_of-n) c.get16-word.ensures,
-      omega (arith, c.image_length-whole.ensures, c.if-room-whole.false),
-    )
+fill_back-requires c = (
+  accepted (goal.at.fill_back-requires c).Else-judged-ne0,
+  edition_is (goal.at.fill_back-requires c).Else-word-lt32768,
+  states_are (goal.at.fill_back-requires c).After-states_of-n,
+  c.get32-m.ensures,
+  c.behind-held.ensures.0 ∙ behind_named (bytes (goal.at.fill_back-requires c).Else-judged-ne0) 268 (states_are (goal.at.fill_back-requires c).After-states_of-n) c.get16-word.ensures,
+  omega (arith, c.image_length-whole.ensures, c.if-room-whole.false),
+)
 
 pub returns : goal.returns
 returns c =

@@ -88,16 +88,15 @@ returns-then-room-whole c =
     (omega (arith, c.if-room-whole.true)) c.not_built-then-room-whole.ensures.0 c.not_built-then-room-whole.ensures.1
 
 pub fill_forward-requires : goal.fill_forward-requires
-fill_forward-requires c =
-    (
-      accepted (goal.at.fill_forward-requires c).Else-judged-ne0,
-      edition_is (goal.at.fill_forward-requires c).Else-word-ge32768,
-      states_are (goal.at.fill_forward-requires c).After-states_of-n,
-      c.get32-m.ensures,
-      held_is (goal.at.fill_forward-requires c).After-held_of-held,
-      c.held_of-held.ensures.1,
-      omega (arith, c.image_length-whole.ensures, c.if-room-whole.false),
-    )
+fill_forward-requires c = (
+  accepted (goal.at.fill_forward-requires c).Else-judged-ne0,
+  edition_is (goal.at.fill_forward-requires c).Else-word-ge32768,
+  states_are (goal.at.fill_forward-requires c).After-states_of-n,
+  c.get32-m.ensures,
+  held_is (goal.at.fill_forward-requires c).After-held_of-held,
+  c.held_of-held.ensures.1,
+  omega (arith, c.image_length-whole.ensures, c.if-room-whole.false),
+)
 
 pub returns : goal.returns
 returns c =

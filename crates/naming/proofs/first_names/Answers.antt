@@ -1,5 +1,5 @@
 use mathlib.Core.Path.{refl, subst}
-use Prim.Native.Nat.{ℕ, ◌-◌, ◌<◌}
+use Prim.Native.Nat.{ℕ, ◌<◌}
 use native.Mathlib.Omega.{arith}
 use Rattle.paper.specs.Labels.{edition_of}
 use Rattle.paper.specs.Table.{states}

@@ -1,5 +1,4 @@
 use mathlib.Core.Path.{refl}
-use Prim.Native.Nat.{◌-◌}
 use native.Mathlib.Omega.{arith}
 use Rattle.naming.proofs.PutIn.{shift_none, shift_more, shift_last}
 use Rattle.naming.proofs.put_in.Goals as goal

@@ -1,5 +1,5 @@
 use mathlib.Core.Path.{◌≡◌, ap, ◌∙◌}
-use Prim.Native.Nat.{ℕ, ◌+◌, ◌*◌, ◌-◌, ◌≤◌, ◌<◌}
+use Prim.Native.Nat.{ℕ, ◌+◌, ◌*◌, ◌≤◌, ◌<◌}
 use native.Mathlib.Omega.{arith}
 use lib.ListN.{length}
 use borrow.Author.Rules.{rules}
@@ -24,8 +24,7 @@ sized c = let O = c.requires.0 in (c.records_at-records.ensures.1, omega (arith,
 
 -- The record that was read is the listed state's.
 record_is : (c : After-record_at-record)
-    →
-    let x = c.args.x.now in
+    → let x = c.args.x.now in
     (default_of c.record_at-record.result.fallback ≡ default x c.loop-i.i) × (c.record_at-record.result.count ≡ count x c.loop-i.i)
 unfolding default count
 record_is c =
@@ -36,8 +35,7 @@ record_is c =
 
 -- The entries of the listed state stand in the patch, and it has a place in the lists.
 inside : (c : After-state_at-s)
-    →
-    let x = c.args.x.now in
+    → let x = c.args.x.now in
     (c.loop-i.at + 4 * count x c.loop-i.i + 12 ≤ length x) × (length x < 600000) × (c.state_at-s.result < 512)
 inside c =
     let O = c.requires.0 in

@@ -1,4 +1,3 @@
-use Prim.Native.Nat.{◌-◌}
 use native.Mathlib.Omega.{arith}
 use Rattle.weights.specs.Weighed.{weight_in}
 use Rattle.weights.proofs.Next.{passed_more}

@@ -1,5 +1,5 @@
 use mathlib.Core.Path.{◌≡◌, refl}
-use Prim.Native.Nat.{◌+◌, ◌*◌, ◌-◌, ◌<◌, ◌^◌}
+use Prim.Native.Nat.{◌+◌, ◌*◌, ◌<◌, ◌^◌}
 use native.Mathlib.Omega.{arith}
 use lib.ListN.{length, set}
 use Rattle.paper.specs.Patch.{entry_at}
@@ -16,8 +16,7 @@ sized c = let S = c.requires.shaped in (c.records_at-records.ensures.1, S.small,
 
 -- What holds after a turn.
 turned : (c : After-get16)
-    →
-    let t = c.args in
+    → let t = c.args in
     Begun (λ i. entry_at t.x.now i 0) 65 (length t.x.now) t.p (c.loop-i.at + 4 * c.get16.result) (set c.loop-i.begins c.loop-i.i c.loop-i.at) (c.loop-i.i + 1)
 turned c =
     begun_more c.requires c.loop-i.invariant c.loop-i-test.true _ c.records_at-records.result c.records_at-records.ensures.0 c.get16.ensures

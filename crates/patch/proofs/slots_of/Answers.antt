@@ -1,5 +1,5 @@
 use mathlib.Core.Path.{refl}
-use Prim.Native.Nat.{ℕ, ◌+◌, ◌-◌, ◌<◌}
+use Prim.Native.Nat.{ℕ, ◌+◌, ◌<◌}
 use native.Mathlib.Omega.{arith}
 use lib.ListN.{length-replicate, get_or-replicate}
 use Rattle.patch.proofs.Over.{over_start, over_more}

@@ -17,8 +17,7 @@ view t = patched_view t.args.image.now t.args.x.now
 
 -- The step over the part is the state's.
 step_here : (c : After-stored_in)
-    →
-    c.stored_in.result ≡ step_of (stored (view (goal.at.After-stored_in c).Start) c.loop-t.s c.args.class)
+    → c.stored_in.result ≡ step_of (stored (view (goal.at.After-stored_in c).Start) c.loop-t.s c.args.class)
 step_here c = reading_step c.row_of-row.ensures c.args.class c.stored_in.result c.stored_in.ensures
 
 in_lists : (c : In-Nothing) → c.loop-t.s < 512
@@ -26,8 +25,7 @@ in_lists c = omega (arith, c.loop-t.invariant.inside, c.requires.0.rows.accepted
 
 -- Where nothing is stored the way goes on to where the state falls.
 onward : (c : In-Nothing)
-    →
-    Onward (view (goal.at.In-Nothing c).Start) c.args.state c.args.class c.loop-t.s c.loop-t.hops (get_or c.args.up.now c.loop-t.s 0)
+    → Onward (view (goal.at.In-Nothing c).Start) c.args.state c.args.class c.loop-t.s c.loop-t.hops (get_or c.args.up.now c.loop-t.s 0)
 onward c =
     let A = c.requires.0.rows.accepted in
     way_falls (view (goal.at.In-Nothing c).Start) A.right A.accepted.few_states c.args.state c.args.class c.requires.1 c.requires.2 c.loop-t.s c.loop-t.hops c.loop-t.invariant

@@ -1,6 +1,6 @@
 use mathlib.Core.Path.{◌≡◌, ap, ◌∙◌}
 use mathlib.Core.List.{List}
-use Prim.Native.Nat.{ℕ, ◌+◌, ◌*◌, ◌/◌, ◌-◌, ◌≤◌, ◌<◌}
+use Prim.Native.Nat.{ℕ, ◌+◌, ◌*◌, ◌/◌, ◌≤◌, ◌<◌}
 use native.Mathlib.Omega.{arith}
 use lib.ListN.{length, get_or}
 use Rattle.paper.specs.Labels.{edition_of}
@@ -36,8 +36,7 @@ byte_small c = omega (arith, c.shared_slice_known-3-1.given c.loop-i.i)
 
 -- The look_up found what there is for it.
 led_to : (c : After-look_up-found)
-    →
-    Led (bytes (goal.at.After-look_up-found c).At-loop-i) c.args.x.now c.loop-i.here (byte (goal.at.After-look_up-found c).At-loop-i) c.look_up-found.result.target c.look_up-found.result.hops
+    → Led (bytes (goal.at.After-look_up-found c).At-loop-i) c.args.x.now c.loop-i.here (byte (goal.at.After-look_up-found c).At-loop-i) c.look_up-found.result.target c.look_up-found.result.hops
 led_to c =
     led (accepted (goal.at.After-look_up-found c).At-loop-i) c.loop-i.here (byte (goal.at.After-look_up-found c).At-loop-i) c.wide-class.result _ _ c.loop-i.invariant.inside (byte_small (goal.at.After-look_up-found c).After-shared_slice_known-in-loop-i-1) c.wide-class.ensures.0 c.look_up-found.ensures
 
@@ -46,8 +45,7 @@ abbrev reported : After-get16-tag → List ℕ
 reported c = let t = c.args in spoken t.image.now t.firsts.now t.word c.look_up-found.result.target c.get16-tag.result
 
 speaking : (c : After-get16-tag)
-    →
-    let t = c.args in
+    → let t = c.args in
     Speaks t.image.now t.x.now t.firsts.now t.word c.loop-i.here (byte (goal.at.After-get16-tag c).At-loop-i) c.look_up-found.result.target c.get16-tag.result
 speaking c = speaks (accepted (goal.at.After-get16-tag c).At-loop-i) c.requires.1 (led_to (goal.at.After-get16-tag c).After-look_up-found) c.get16-tag.result c.get16-tag.ensures
 
@@ -171,9 +169,9 @@ loop-i-preserved c =
     let further = ap (λ (y : ℕ). c.loop-i.hops + y) L.hops_are in
     elim c.if-tag-ne0.branch [
       | then-tag-ne0+else-most-reports w ↦ going_loud c.loop-i.invariant h (reported (goal.at.loop-i-preserved c).After-get16-tag) S.labels_so L.reached t.target next hops L.target_is further
-    S.few (omega (arith, w.if-most-reports.false, w.how_many-many.ensures, S.many)) (capacity (goal.at.loop-i-preserved c).At-loop-i) c.if-tag-ne0.room (w.room-is ∙ w.put_tagged.ensures) (omega (arith, w.count-is, w.how_many-many.ensures, S.many))
+          S.few (omega (arith, w.if-most-reports.false, w.how_many-many.ensures, S.many)) (capacity (goal.at.loop-i-preserved c).At-loop-i) c.if-tag-ne0.room (w.room-is ∙ w.put_tagged.ensures) (omega (arith, w.count-is, w.how_many-many.ensures, S.many))
       | else-tag-ne0 w ↦ rw w.room-is (going_quiet c.loop-i.invariant h (reported (goal.at.loop-i-preserved c).After-get16-tag) S.labels_so L.reached t.target next hops L.target_is further
-    (none_tagged (edition_of a.word) a.image.now (268 + 2 * get_or a.firsts.now t.target 0) c.get16-tag.result w.if-tag-ne0.false) w.count-is)
+          (none_tagged (edition_of a.word) a.image.now (268 + 2 * get_or a.firsts.now t.target 0) c.get16-tag.result w.if-tag-ne0.false) w.count-is)
     ]
 
 pub overflow_cast-result-2 : goal.overflow_cast-result-2

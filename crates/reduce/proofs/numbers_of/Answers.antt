@@ -1,5 +1,5 @@
 use mathlib.Core.Path.{◌≡◌, subst}
-use Prim.Native.Nat.{ℕ, ◌-◌, ◌≤◌}
+use Prim.Native.Nat.{ℕ, ◌≤◌}
 use native.Mathlib.Omega.{arith}
 use lib.ListN.{replicate, length-replicate}
 use Rattle.reduction.specs.Numbers.{NumbersOf}
@@ -55,8 +55,7 @@ loop-x-smaller c = omega (arith, c.loop-x-test.true)
 
 pub loop-x-preserved : goal.loop-x-preserved
 loop-x-preserved c =
-    let l = c.loop-x in
-    (
+    let l = c.loop-x in (
       omega (arith, c.loop-x-test.true),
       numbering_more c.args.name.now l.x l.left l.rank l.old c.counted-left.result (omega (arith, c.requires, c.loop-x-test.true)) c.counted-left.ensures.0 l.invariant.1,
     )

@@ -1,5 +1,4 @@
 use mathlib.Core.Path.{refl}
-use Prim.Native.Nat.{◌-◌}
 use native.Mathlib.Omega.{arith}
 use Rattle.paper.proofs.Filled.{fills_none, fills_more}
 use Rattle.rewrite.proofs.stay_of.Goals as goal

@@ -1,5 +1,4 @@
 use mathlib.Core.Path.{refl}
-use Prim.Native.Nat.{◌-◌}
 use native.Mathlib.Omega.{arith}
 use Rattle.rewrite.proofs.Standing.{passed_as}
 use Rattle.rewrite.proofs.Sweeping.{few, sweeping_start, sweeping_more, sweeping_done}

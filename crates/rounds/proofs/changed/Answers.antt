@@ -1,6 +1,5 @@
 use mathlib.Core.Path.{refl}
 use mathlib.Core.Bool.{false}
-use Prim.Native.Nat.{◌-◌}
 use native.Mathlib.Omega.{arith}
 use Rattle.reduction.proofs.Changed.{same_more, changed_found, changed_none}
 use Rattle.rounds.proofs.changed.Goals as goal

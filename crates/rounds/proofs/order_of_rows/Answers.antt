@@ -1,5 +1,5 @@
 use mathlib.Core.Path.{◌≡◌, sym, ap}
-use Prim.Native.Nat.{ℕ, ◌-◌, ◌<◌}
+use Prim.Native.Nat.{ℕ, ◌<◌}
 use native.Mathlib.Omega.{arith}
 use lib.ListN.{get_or}
 use Rattle.table.proofs.Next.{accepted_counted}

@@ -1,7 +1,6 @@
 use mathlib.Core.Bool.{not}
 use mathlib.Core.Path.{ap}
 use mathlib.Core.Path.{sym, ◌∙◌}
-use Prim.Native.Nat.{◌-◌}
 use native.Mathlib.Omega.{arith}
 use borrow.Author.Tests.{not-true}
 use Rattle.reduction.proofs.Refined.{refine_last, refine_more, refine_end}

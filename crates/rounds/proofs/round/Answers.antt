@@ -1,5 +1,5 @@
 use mathlib.Core.Path.{refl}
-use Prim.Native.Nat.{◌-◌, ◌<◌}
+use Prim.Native.Nat.{◌<◌}
 use native.Mathlib.Omega.{arith}
 use Rattle.paper.proofs.Filled.{fills_none, fills_more}
 use Rattle.reduction.proofs.Rounds.{round_names}

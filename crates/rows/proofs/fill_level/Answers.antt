@@ -1,4 +1,4 @@
-use Prim.Native.Nat.{◌+◌, ◌-◌}
+use Prim.Native.Nat.{◌+◌}
 use mathlib.Core.Path.{◌≡◌}
 use native.Mathlib.Omega.{arith}
 use Rattle.strings.proofs.LevelTurn.{turn_level}
@@ -72,9 +72,9 @@ loop-s-preserved c =
     let A : After p b m a.n k a.rows.now a.links.now l.rows l.links l.linked a.level l.s = (l.invariant.1, l.invariant.2, l.invariant.3, l.invariant.4) in
     let r : After p b m a.n k a.rows.now a.links.now c.if-long-s.rows c.if-long-s.links c.if-long-s.linked a.level (l.s + 1) = elim c.if-long-s.branch [
       | then-long-s w ↦ after_filled p b m a.n k a.k c.requires.4 c.requires.5 a.rows.now a.links.now l.rows l.links l.linked a.level l.s (omega arith) c.requires.3 A
-    c.if-long-s.rows c.if-long-s.links c.if-long-s.linked w.if-long-s.true w.wide-p.ensures w.wide_byte.ensures.0 w.wide_byte-a.ensures.0 w.rows-is w.links-is w.linked-is w.fill_state.ensures
+          c.if-long-s.rows c.if-long-s.links c.if-long-s.linked w.if-long-s.true w.wide-p.ensures w.wide_byte.ensures.0 w.wide_byte-a.ensures.0 w.rows-is w.links-is w.linked-is w.fill_state.ensures
       | else-long-s w ↦ after_passed p b m a.n k a.k c.requires.4 c.requires.5 a.rows.now a.links.now l.rows l.links l.linked a.level l.s (omega arith) c.requires.3 A
-    c.if-long-s.rows c.if-long-s.links c.if-long-s.linked w.if-long-s.false w.rows-is w.links-is w.linked-is
+          c.if-long-s.rows c.if-long-s.links c.if-long-s.linked w.if-long-s.false w.rows-is w.links-is w.linked-is
     ] in
     (omega arith, r.0, r.1, r.2, r.3)
 

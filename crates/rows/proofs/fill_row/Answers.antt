@@ -1,5 +1,5 @@
 use mathlib.Core.Path.{◌≡◌, subst}
-use Prim.Native.Nat.{◌-◌, ◌<◌}
+use Prim.Native.Nat.{◌<◌}
 use native.Mathlib.Omega.{arith}
 use Rattle.rows.proofs.Part.{Part, part_none, part_all, part_turn}
 use Rattle.rows.proofs.fill_row.Goals as goal

@@ -1,5 +1,4 @@
 use mathlib.Core.Path.{◌≡◌, sym, ap, ◌∙◌}
-use Prim.Native.Nat.{◌-◌}
 use native.Mathlib.Omega.{arith}
 use lib.ListN.{length}
 use borrow.Author.Rules.{rules}
@@ -38,12 +37,11 @@ pub put_report-requires : goal.put_report-requires
 put_report-requires c = omega (arith, c.requires.0, c.loop-j-test.true, long (goal.at.put_report-requires c).At-loop-j)
 
 pub loop-j-preserved : goal.loop-j-preserved
-loop-j-preserved c =
-    (
-      omega (arith, c.loop-j-test.true),
-      report_more c.args.room.now c.loop-j.room c.put_report.new.room c.args.b.now c.args.at c.args.offset c.args.from c.get16-label.result c.loop-j.j
-          (omega (arith, c.requires.0, c.loop-j-test.true)) c.loop-j.invariant.1 c.get16-label.ensures c.put_report.ensures,
-    )
+loop-j-preserved c = (
+  omega (arith, c.loop-j-test.true),
+  report_more c.args.room.now c.loop-j.room c.put_report.new.room c.args.b.now c.args.at c.args.offset c.args.from c.get16-label.result c.loop-j.j
+      (omega (arith, c.requires.0, c.loop-j-test.true)) c.loop-j.invariant.1 c.get16-label.ensures c.put_report.ensures,
+)
 
 pub shape_of-room : goal.shape_of-room
 shape_of-room c = long (goal.at.shape_of-room c).At-loop-j

@@ -1,4 +1,4 @@
-use Prim.Native.Nat.{ℕ, ◌+◌, ◌*◌, ◌/◌, ◌-◌, ◌≤◌}
+use Prim.Native.Nat.{ℕ, ◌+◌, ◌*◌, ◌/◌, ◌≤◌}
 use native.Mathlib.Omega.{arith}
 use mathlib.Core.Path.{◌≡◌, sym, ◌∙◌}
 use mathlib.Core.List.{List}
@@ -45,23 +45,20 @@ reported c = tagged (edition_of c.args.word) (bytes (goal.at.After-taken_one-tak
 
 -- The byte leads to a state of the image.
 reached : (c : After-taken_one-taken)
-    →
-    Reached (states (bytes (goal.at.After-taken_one-taken c).At-loop-i)) (look (image_view (bytes (goal.at.After-taken_one-taken c).At-loop-i)) c.loop-i.run.state (class_of (bytes (goal.at.After-taken_one-taken c).At-loop-i) (byte (goal.at.After-taken_one-taken c).At-loop-i))).target (look (image_view (bytes (goal.at.After-taken_one-taken c).At-loop-i)) c.loop-i.run.state (class_of (bytes (goal.at.After-taken_one-taken c).At-loop-i) (byte (goal.at.After-taken_one-taken c).At-loop-i))).hops
+    → Reached (states (bytes (goal.at.After-taken_one-taken c).At-loop-i)) (look (image_view (bytes (goal.at.After-taken_one-taken c).At-loop-i)) c.loop-i.run.state (class_of (bytes (goal.at.After-taken_one-taken c).At-loop-i) (byte (goal.at.After-taken_one-taken c).At-loop-i))).target (look (image_view (bytes (goal.at.After-taken_one-taken c).At-loop-i)) c.loop-i.run.state (class_of (bytes (goal.at.After-taken_one-taken c).At-loop-i) (byte (goal.at.After-taken_one-taken c).At-loop-i))).hops
 reached c =
     byte_reached (bytes (goal.at.After-taken_one-taken c).At-loop-i) c.requires.0.accepted c.loop-i.run.state (byte (goal.at.After-taken_one-taken c).At-loop-i) c.loop-i.invariant.inside (omega (arith, c.type_inv.payload c.loop-i.i))
 
 -- It is the state that was taken, and its tag was read.
 went : (c : After-taken_one-taken)
-    →
-    let target = (look (image_view (bytes (goal.at.After-taken_one-taken c).At-loop-i)) c.loop-i.run.state (class_of (bytes (goal.at.After-taken_one-taken c).At-loop-i) (byte (goal.at.After-taken_one-taken c).At-loop-i))).target in
+    → let target = (look (image_view (bytes (goal.at.After-taken_one-taken c).At-loop-i)) c.loop-i.run.state (class_of (bytes (goal.at.After-taken_one-taken c).At-loop-i) (byte (goal.at.After-taken_one-taken c).At-loop-i))).target in
     ((taken c).run.state ≡ target) × ((taken c).tag ≡ tag_of (bytes (goal.at.After-taken_one-taken c).At-loop-i) 268 target)
 went c =
     (target_is (bytes (goal.at.After-taken_one-taken c).At-loop-i) c.loop-i.run (byte (goal.at.After-taken_one-taken c).At-loop-i) (taken c) c.taken_one-taken.ensures, turn.tag_is (bytes (goal.at.After-taken_one-taken c).At-loop-i) c.loop-i.run (byte (goal.at.After-taken_one-taken c).At-loop-i) (taken c) c.taken_one-taken.ensures)
 
 -- Its labels are those that are reported, and few.
 labels_are : (c : After-taken_one-taken)
-    →
-    labels (bytes (goal.at.After-taken_one-taken c).At-loop-i) (look (image_view (bytes (goal.at.After-taken_one-taken c).At-loop-i)) c.loop-i.run.state (class_of (bytes (goal.at.After-taken_one-taken c).At-loop-i) (byte (goal.at.After-taken_one-taken c).At-loop-i))).target ≡ reported c
+    → labels (bytes (goal.at.After-taken_one-taken c).At-loop-i) (look (image_view (bytes (goal.at.After-taken_one-taken c).At-loop-i)) c.loop-i.run.state (class_of (bytes (goal.at.After-taken_one-taken c).At-loop-i) (byte (goal.at.After-taken_one-taken c).At-loop-i))).target ≡ reported c
 labels_are c =
     let (state_is, tag_is) = went c in
     turn.labels_are (bytes (goal.at.After-taken_one-taken c).At-loop-i) _ (taken c).run.state (taken c).tag state_is tag_is c.requires.0.accepted (reached c).inside c.args.firsts.now c.args.word c.requires.1
@@ -120,12 +117,11 @@ pub overflow_cast-i : goal.overflow_cast-i
 overflow_cast-i c = search (rules, c.loop-i.invariant.within, c.requires.3)
 
 pub put_tagged-requires : goal.put_tagged-requires
-put_tagged-requires c =
-    (
-      c.if-tag-ne0.true,
-      omega (arith, going_length c.loop-i.invariant (capacity (goal.at.put_tagged-requires c).At-loop-i), c.if-most-reports.false, c.how_many-many.ensures),
-      turn.labels_in (bytes (goal.at.put_tagged-requires c).At-loop-i) _ (taken (goal.at.put_tagged-requires c).After-taken_one-taken).run.state (taken (goal.at.put_tagged-requires c).After-taken_one-taken).tag (went (goal.at.put_tagged-requires c).After-taken_one-taken).0 (went (goal.at.put_tagged-requires c).After-taken_one-taken).1 c.requires.0.accepted (reached (goal.at.put_tagged-requires c).After-taken_one-taken).inside c.args.firsts.now c.args.word c.requires.1,
-    )
+put_tagged-requires c = (
+  c.if-tag-ne0.true,
+  omega (arith, going_length c.loop-i.invariant (capacity (goal.at.put_tagged-requires c).At-loop-i), c.if-most-reports.false, c.how_many-many.ensures),
+  turn.labels_in (bytes (goal.at.put_tagged-requires c).At-loop-i) _ (taken (goal.at.put_tagged-requires c).After-taken_one-taken).run.state (taken (goal.at.put_tagged-requires c).After-taken_one-taken).tag (went (goal.at.put_tagged-requires c).After-taken_one-taken).0 (went (goal.at.put_tagged-requires c).After-taken_one-taken).1 c.requires.0.accepted (reached (goal.at.put_tagged-requires c).After-taken_one-taken).inside c.args.firsts.now c.args.word c.requires.1,
+)
 
 pub overflow_add-count : goal.overflow_add-count
 overflow_add-count c =
@@ -145,9 +141,9 @@ loop-i-preserved c =
     let size = many_tagged (edition_of c.args.word) b (from (goal.at.loop-i-preserved c).After-taken_one-taken) t.tag in
     elim c.if-tag-ne0.branch [
       | then-tag-ne0+else-most-reports w ↦ going_loud c.loop-i.invariant h (reported (goal.at.loop-i-preserved c).After-taken_one-taken) (labels_are (goal.at.loop-i-preserved c).After-taken_one-taken) (reached (goal.at.loop-i-preserved c).After-taken_one-taken) t.run.state next t.run.hops (target_is b c.loop-i.run (byte (goal.at.loop-i-preserved c).At-loop-i) t e) (hops_are b c.loop-i.run (byte (goal.at.loop-i-preserved c).At-loop-i) t e)
-    (labels_few (goal.at.loop-i-preserved c).After-taken_one-taken) (omega (arith, w.if-most-reports.false, w.how_many-many.ensures, size)) (capacity (goal.at.loop-i-preserved c).At-loop-i) c.if-tag-ne0.room (w.room-is ∙ w.put_tagged.ensures) (omega (arith, w.count-is, w.how_many-many.ensures, size))
+          (labels_few (goal.at.loop-i-preserved c).After-taken_one-taken) (omega (arith, w.if-most-reports.false, w.how_many-many.ensures, size)) (capacity (goal.at.loop-i-preserved c).At-loop-i) c.if-tag-ne0.room (w.room-is ∙ w.put_tagged.ensures) (omega (arith, w.count-is, w.how_many-many.ensures, size))
       | else-tag-ne0 w ↦ rw w.room-is (going_quiet c.loop-i.invariant h (reported (goal.at.loop-i-preserved c).After-taken_one-taken) (labels_are (goal.at.loop-i-preserved c).After-taken_one-taken) (reached (goal.at.loop-i-preserved c).After-taken_one-taken) t.run.state next t.run.hops (target_is b c.loop-i.run (byte (goal.at.loop-i-preserved c).At-loop-i) t e) (hops_are b c.loop-i.run (byte (goal.at.loop-i-preserved c).At-loop-i) t e)
-    (none_tagged (edition_of c.args.word) b (from (goal.at.loop-i-preserved c).After-taken_one-taken) t.tag w.if-tag-ne0.false) w.count-is)
+          (none_tagged (edition_of c.args.word) b (from (goal.at.loop-i-preserved c).After-taken_one-taken) t.tag w.if-tag-ne0.false) w.count-is)
     ]
 
 pub overflow_cast-result-2 : goal.overflow_cast-result-2

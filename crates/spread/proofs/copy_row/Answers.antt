@@ -1,5 +1,4 @@
 use mathlib.Core.Path.{◌≡◌}
-use Prim.Native.Nat.{◌-◌}
 use native.Mathlib.Omega.{arith}
 use Rattle.spread.proofs.Copying.{copied_none, copied_more}
 use Rattle.spread.proofs.copy_row.Goals as goal

@@ -1,5 +1,5 @@
 use mathlib.Core.Path.{◌≡◌}
-use Prim.Native.Nat.{◌-◌, ◌/◌, ◌<◌}
+use Prim.Native.Nat.{◌/◌, ◌<◌}
 use native.Mathlib.Omega.{arith}
 use lib.ListN.{length}
 use Rattle.spread.proofs.Overlay.{overlaid_none, overlaid_more}
@@ -20,8 +20,7 @@ put16-requires c = omega (arith, class_below (goal.at.put16-requires c).After-ge
 
 pub loop-j-preserved : goal.loop-j-preserved
 loop-j-preserved c =
-    let l = c.loop-j in
-    (
+    let l = c.loop-j in (
       omega arith,
       rw c.put16.ensures
           (overlaid_more l.invariant.1 _ c.requires.0.rising (omega arith) c.get16-class.result c.get16-next.result c.get16-class.ensures (class_below (goal.at.loop-j-preserved c).After-get16-class)

@@ -1,5 +1,5 @@
 use mathlib.Core.Path.{◌≡◌, refl}
-use Prim.Native.Nat.{ℕ, ◌-◌, ◌≤◌, ◌<◌}
+use Prim.Native.Nat.{ℕ, ◌≤◌, ◌<◌}
 use native.Mathlib.Omega.{arith}
 use lib.ListN.{get_or}
 use Rattle.spread.specs.Rows.{row_at}
@@ -35,8 +35,7 @@ overflow_cast-s c = omega (arith, state_below (goal.at.overflow_cast-s c).In-loo
 
 pub put_row-requires : goal.put_row-requires
 put_row-requires c =
-    let l = c.loop-i in
-    (
+    let l = c.loop-i in (
       setting_kept c.requires.0 l.room l.invariant.1.long,
       omega (arith, state_below (goal.at.put_row-requires c).In-loop-i, c.requires.1),
       λ d e. l.invariant.2 d (c.requires.2.after l.i d (omega arith) e),

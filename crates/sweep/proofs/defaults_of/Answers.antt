@@ -1,5 +1,4 @@
 use mathlib.Core.Path.{◌≡◌, refl, ◌∙◌, ap}
-use Prim.Native.Nat.{◌-◌}
 use native.Mathlib.Omega.{arith}
 use Rattle.image.specs.Forms.{number_of}
 use Rattle.image.specs.declared.Record.{Record}

@@ -32,21 +32,20 @@ classes_of-k-requires c =
     (refl, (rules c.args.list.now, c.used_of-used.ensures, kept (goal.at.classes_of-k-requires c).After-classes-1))
 
 pub put_all-n-requires : goal.put_all-n-requires
-put_all-n-requires c =
-    (
-      record {
-        rows-size = length-replicate {A = ℕ} 131072 0;
-        parent_size = length-replicate {A = ℕ} 512 0;
-        last_size = length-replicate {A = ℕ} 512 0;
-        long_size = length-replicate {A = ℕ} 512 0;
-        from_size = length-replicate {A = ℕ} 512 0;
-      },
-      c.requires,
-      (classing (goal.at.put_all-n-requires c).After-classes_of-k).1,
-      zeros 131072,
-      zeros 512 0,
-      zeros 512 0,
-    )
+put_all-n-requires c = (
+  record {
+    rows-size = length-replicate {A = ℕ} 131072 0;
+    parent_size = length-replicate {A = ℕ} 512 0;
+    last_size = length-replicate {A = ℕ} 512 0;
+    long_size = length-replicate {A = ℕ} 512 0;
+    from_size = length-replicate {A = ℕ} 512 0;
+  },
+  c.requires,
+  (classing (goal.at.put_all-n-requires c).After-classes_of-k).1,
+  zeros 131072,
+  zeros 512 0,
+  zeros 512 0,
+)
 
 pub not_built-requires : goal.not_built-requires
 not_built-requires c = tt

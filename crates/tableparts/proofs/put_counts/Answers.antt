@@ -1,5 +1,4 @@
 use mathlib.Core.Path.{◌≡◌}
-use Prim.Native.Nat.{◌-◌}
 use native.Mathlib.Omega.{arith}
 use Rattle.paper.specs.Words.{bytes16}
 use Rattle.words.proofs.Laid.{laid_none, laid_more}

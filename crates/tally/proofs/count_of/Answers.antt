@@ -1,6 +1,5 @@
 use mathlib.Core.Path.{◌≡◌, refl}
 use mathlib.Core.Logic.{inl, inr}
-use Prim.Native.Nat.{◌-◌}
 use native.Mathlib.Omega.{arith}
 use Rattle.tally.proofs.Counting.{counted}
 use Rattle.tally.proofs.count_of.Goals as goal

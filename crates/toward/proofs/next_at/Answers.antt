@@ -1,4 +1,3 @@
-use Prim.Native.Nat.{◌-◌}
 use native.Mathlib.Omega.{arith}
 use Rattle.weights.proofs.Next.{passed_more}
 use Rattle.toward.specs.Marked.{level_in}

@@ -1,4 +1,4 @@
-use Prim.Native.Nat.{ℕ, ◌+◌, ◌*◌, ◌/◌, ◌-◌, ◌≤◌, ◌<◌}
+use Prim.Native.Nat.{ℕ, ◌+◌, ◌*◌, ◌/◌, ◌≤◌, ◌<◌}
 use mathlib.Core.List.{List}
 use mathlib.Core.Path.{◌≡◌, refl, ap, sym, ◌∙◌}
 use native.Mathlib.Omega.{arith}
@@ -39,8 +39,7 @@ class_is : (c : After-wide-class) → c.wide-class.result ≡ class_of (bytes (g
 class_is c = c.wide-class.ensures.0 ∙ ap (class_of (bytes (goal.at.After-wide-class c).At-loop-i)) c.wide.ensures.0
 
 next_is : (c : After-next_state-next)
-    →
-    c.next_state-next.result ≡ next (bytes (goal.at.After-next_state-next c).At-loop-i) c.loop-i.s (class_of (bytes (goal.at.After-next_state-next c).At-loop-i) (byte (goal.at.After-next_state-next c).At-loop-i))
+    → c.next_state-next.result ≡ next (bytes (goal.at.After-next_state-next c).At-loop-i) c.loop-i.s (class_of (bytes (goal.at.After-next_state-next c).At-loop-i) (byte (goal.at.After-next_state-next c).At-loop-i))
 next_is c = c.next_state-next.ensures ∙ ap (next (bytes (goal.at.After-next_state-next c).At-loop-i) c.loop-i.s) (class_is (goal.at.After-next_state-next c).After-wide-class)
 
 -- It leads to a state of the table.
@@ -98,12 +97,11 @@ pub bounds-table-wide : goal.bounds-table-wide
 bounds-table-wide c = omega (arith, c.requires.0.long, c.wide.ensures.1)
 
 pub next_state-next-requires : goal.next_state-next-requires
-next_state-next-requires c =
-    (
-      accepted_counted (bytes (goal.at.next_state-next-requires c).At-loop-i) c.args.n c.args.k c.requires.1 c.requires.2 c.requires.0,
-      omega (arith, c.loop-i.invariant.inside, c.requires.1),
-      omega (arith, class_in (bytes (goal.at.next_state-next-requires c).At-loop-i) c.requires.0 (byte (goal.at.next_state-next-requires c).At-loop-i) c.wide-class.result (byte_below (goal.at.next_state-next-requires c).After-wide) (class_is (goal.at.next_state-next-requires c).After-wide-class), c.requires.2),
-    )
+next_state-next-requires c = (
+  accepted_counted (bytes (goal.at.next_state-next-requires c).At-loop-i) c.args.n c.args.k c.requires.1 c.requires.2 c.requires.0,
+  omega (arith, c.loop-i.invariant.inside, c.requires.1),
+  omega (arith, class_in (bytes (goal.at.next_state-next-requires c).At-loop-i) c.requires.0 (byte (goal.at.next_state-next-requires c).At-loop-i) c.wide-class.result (byte_below (goal.at.next_state-next-requires c).After-wide) (class_is (goal.at.next_state-next-requires c).After-wide-class), c.requires.2),
+)
 
 pub get16-tag-requires : goal.get16-tag-requires
 get16-tag-requires c =
@@ -143,12 +141,11 @@ pub overflow_cast-i : goal.overflow_cast-i
 overflow_cast-i c = search (rules, c.loop-i.invariant.within, c.requires.5)
 
 pub put_tagged-requires : goal.put_tagged-requires
-put_tagged-requires c =
-    (
-      c.if-tag-ne0.true,
-      omega (arith, going_length c.loop-i.invariant (capacity (goal.at.put_tagged-requires c).At-loop-i), c.if-most-reports.false, c.how_many-many.ensures),
-      rw c.get16-tag.ensures (plain.labels_in (bytes (goal.at.put_tagged-requires c).At-loop-i) c.requires.0 (word (goal.at.put_tagged-requires c).At-loop-i) c.requires.3 (firsts (goal.at.put_tagged-requires c).At-loop-i) (firsts_are (goal.at.put_tagged-requires c).At-loop-i) c.next_state-next.result (inside (goal.at.put_tagged-requires c).After-next_state-next)),
-    )
+put_tagged-requires c = (
+  c.if-tag-ne0.true,
+  omega (arith, going_length c.loop-i.invariant (capacity (goal.at.put_tagged-requires c).At-loop-i), c.if-most-reports.false, c.how_many-many.ensures),
+  rw c.get16-tag.ensures (plain.labels_in (bytes (goal.at.put_tagged-requires c).At-loop-i) c.requires.0 (word (goal.at.put_tagged-requires c).At-loop-i) c.requires.3 (firsts (goal.at.put_tagged-requires c).At-loop-i) (firsts_are (goal.at.put_tagged-requires c).At-loop-i) c.next_state-next.result (inside (goal.at.put_tagged-requires c).After-next_state-next)),
+)
 
 pub overflow_add-reports-then-tag-ne0 : goal.overflow_add-reports-then-tag-ne0
 overflow_add-reports-then-tag-ne0 c =
@@ -160,9 +157,9 @@ loop-i-preserved c =
     let to = c.next_state-next.result in
     elim c.if-tag-ne0.branch [
       | then-tag-ne0+else-most-reports w ↦ going_loud c.loop-i.invariant h (reported (goal.at.loop-i-preserved c).After-get16-tag) (labels_are (goal.at.loop-i-preserved c).After-get16-tag) (reached (goal.at.loop-i-preserved c).After-wide-class) to c.if-tag-ne0.reports 0 (next_is (goal.at.loop-i-preserved c).After-next_state-next) refl
-    (labels_few (goal.at.loop-i-preserved c).After-get16-tag) (omega (arith, w.if-most-reports.false, w.how_many-many.ensures, size_is (goal.at.loop-i-preserved c).After-get16-tag)) (capacity (goal.at.loop-i-preserved c).At-loop-i) c.if-tag-ne0.room (w.room-is ∙ w.put_tagged.ensures) (omega (arith, w.reports-is, w.how_many-many.ensures, size_is (goal.at.loop-i-preserved c).After-get16-tag))
+          (labels_few (goal.at.loop-i-preserved c).After-get16-tag) (omega (arith, w.if-most-reports.false, w.how_many-many.ensures, size_is (goal.at.loop-i-preserved c).After-get16-tag)) (capacity (goal.at.loop-i-preserved c).At-loop-i) c.if-tag-ne0.room (w.room-is ∙ w.put_tagged.ensures) (omega (arith, w.reports-is, w.how_many-many.ensures, size_is (goal.at.loop-i-preserved c).After-get16-tag))
       | else-tag-ne0 w ↦ rw w.room-is (going_quiet c.loop-i.invariant h (reported (goal.at.loop-i-preserved c).After-get16-tag) (labels_are (goal.at.loop-i-preserved c).After-get16-tag) (reached (goal.at.loop-i-preserved c).After-wide-class) to c.if-tag-ne0.reports 0 (next_is (goal.at.loop-i-preserved c).After-next_state-next) refl
-    (none_tagged (edition_of (word (goal.at.loop-i-preserved c).At-loop-i)) (bytes (goal.at.loop-i-preserved c).At-loop-i) (262 + 2 * get_or (firsts (goal.at.loop-i-preserved c).At-loop-i) to 0) c.get16-tag.result w.if-tag-ne0.false) w.reports-is)
+          (none_tagged (edition_of (word (goal.at.loop-i-preserved c).At-loop-i)) (bytes (goal.at.loop-i-preserved c).At-loop-i) (262 + 2 * get_or (firsts (goal.at.loop-i-preserved c).At-loop-i) to 0) c.get16-tag.result w.if-tag-ne0.false) w.reports-is)
     ]
 
 pub overflow_cast-result-2 : goal.overflow_cast-result-2

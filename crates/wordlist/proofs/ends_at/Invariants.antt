@@ -1,6 +1,6 @@
 -- The loop's invariant: the one part ends the other just where its first `left` bytes end the other's first `gap` and `left`.
 use mathlib.Core.Path.{◌≡◌}
-use Prim.Native.Nat.{◌+◌, ◌-◌, ◌≤◌}
+use Prim.Native.Nat.{◌+◌, ◌≤◌}
 use Rattle.paper.specs.Strings.{ends}
 use Rattle.strings.proofs.Parts.{part}
 use Rattle.wordlist.proofs.ends_at.Given as goal

@@ -1,6 +1,5 @@
 use mathlib.Core.Path.{refl, sym}
 use mathlib.Core.Bool.{false}
-use Prim.Native.Nat.{◌-◌}
 use native.Mathlib.Omega.{arith}
 use Rattle.paper.specs.Strings.{count, size}
 use Rattle.strings.proofs.Shape.{shape_count, shape_size, shape_short, shape_none}

@@ -1,4 +1,4 @@
-use Rattle.std.proofs.Common.{◌≡◌, ◌-◌, sym, refl, arith, length-set}
+use Rattle.std.proofs.Common.{◌≡◌, sym, refl, arith, length-set}
 use Rattle.words.proofs.Placed.{placed_nothing}
 use Rattle.words.proofs.Written.{copied}
 use Rattle.words.proofs.copy.Goals as goal

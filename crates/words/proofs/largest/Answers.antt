@@ -1,4 +1,4 @@
-use Rattle.std.proofs.Common.{◌≡◌, ◌-◌, add-one, arith}
+use Rattle.std.proofs.Common.{◌≡◌, add-one, arith}
 use Rattle.words.proofs.largest.Goals as goal
 
 pub loop-i-init : goal.loop-i-init

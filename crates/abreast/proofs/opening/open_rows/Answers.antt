@@ -1,5 +1,5 @@
 use mathlib.Core.Path.{◌≡◌, sym, ap, ◌∙◌}
-use Prim.Native.Nat.{◌+◌, ◌*◌, ◌-◌, ◌≤◌, ◌<◌}
+use Prim.Native.Nat.{◌+◌, ◌*◌, ◌≤◌, ◌<◌}
 use native.Mathlib.Omega.{arith}
 use lib.ListN.{length}
 use borrow.Author.Rules.{rules}
@@ -20,8 +20,7 @@ sized c =
 
 -- The record that was read is the state's.
 record_is : (c : After-record_at-record)
-    →
-    let b = c.args.image.now in
+    → let b = c.args.image.now in
     (default b c.loop-s.s ≡ default_of c.record_at-record.result.fallback) × (c.record_at-record.result.count ≡ count b c.loop-s.s)
 unfolding count
 record_is c =

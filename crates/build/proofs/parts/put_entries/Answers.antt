@@ -1,5 +1,4 @@
 use mathlib.Core.Path.{◌≡◌, refl}
-use Prim.Native.Nat.{◌-◌}
 use native.Mathlib.Omega.{arith}
 use Rattle.words.proofs.Laid.{laid_none, laid_room, laid_more}
 use Rattle.build.proofs.parts.put_entries.Goals as goal

@@ -1,5 +1,4 @@
 use mathlib.Core.Path.{◌≡◌}
-use Prim.Native.Nat.{◌-◌}
 use native.Mathlib.Omega.{arith}
 use Rattle.words.proofs.Laid.{laid_none, laid_more}
 use Rattle.build.proofs.Pieces.{length_records, length_record}

@@ -1,4 +1,3 @@
-use Prim.Native.Nat.{◌-◌}
 use native.Mathlib.Omega.{arith}
 use Rattle.chains.proofs.Defaults.{from_none, from_named}
 use Rattle.chains.proofs.Climbs.{climb_starts, climb_on, climb_meets, climb_ends, climb_endless}
@@ -17,8 +16,7 @@ returns-then-d c =
 
 pub loop-left-preserved : goal.loop-left-preserved
 loop-left-preserved c =
-    let l = c.loop-left in
-    (
+    let l = c.loop-left in (
       omega arith,
       omega (arith, c.requires.2 l.cur l.invariant.1 c.if-d.false),
       climb_on l.invariant.2 _ _ (omega arith) c.if-place-cur.false (from_named _ _ c.if-d.false c.wide-cur.ensures),

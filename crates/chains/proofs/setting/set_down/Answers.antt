@@ -1,4 +1,3 @@
-use Prim.Native.Nat.{◌-◌}
 use mathlib.Core.Path.{◌≡◌, refl}
 use native.Mathlib.Omega.{arith}
 use Rattle.chains.proofs.Room.{climbed_room}
@@ -33,8 +32,7 @@ bounds-def-cur c = omega (arith, (c.loop-i.invariant.3 c.loop-i-test.true).1)
 pub loop-i-preserved : goal.loop-i-preserved
 loop-i-preserved c =
     let l = c.loop-i in
-    let h = c.loop-i-test.true in
-    (
+    let h = c.loop-i-test.true in (
       omega arith,
       l.invariant.1,
       l.invariant.2,

@@ -1,5 +1,5 @@
 use mathlib.Core.Path.{◌≡◌, refl, ap, ◌∙◌}
-use Prim.Native.Nat.{ℕ, ◌+◌, ◌*◌, ◌-◌, ◌<◌, ◌^◌}
+use Prim.Native.Nat.{ℕ, ◌+◌, ◌*◌, ◌<◌, ◌^◌}
 use native.Mathlib.Numerals.{add-one}
 use native.Mathlib.Omega.{arith}
 use lib.ListN.{length}
@@ -17,8 +17,7 @@ sized c = (c.records_at-records.ensures.1, c.requires.small, omega (arith, c.req
 
 -- A count more is added.
 summed : (c : After-get16)
-    →
-    c.loop-i.total + c.get16.result ≡ sum (c.loop-i.i + 1) (count c.args.x.now)
+    → c.loop-i.total + c.get16.result ≡ sum (c.loop-i.i + 1) (count c.args.x.now)
 unfolding count
 summed c = rw (add-one c.loop-i.i, ← c.records_at-records.ensures.0, ← c.get16.ensures, ← c.loop-i.invariant.1) refl
 

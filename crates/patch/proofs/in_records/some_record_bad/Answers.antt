@@ -1,6 +1,6 @@
 use mathlib.Core.Path.{◌≡◌, refl, sym, ap, ◌∙◌}
 use mathlib.Core.Bool.{false}
-use Prim.Native.Nat.{ℕ, ◌+◌, ◌*◌, ◌-◌, ◌<◌, ◌^◌}
+use Prim.Native.Nat.{ℕ, ◌+◌, ◌*◌, ◌<◌, ◌^◌}
 use native.Mathlib.Omega.{arith}
 use lib.ListN.{length}
 use Rattle.paper.proofs.Below.{any_more, any_found}
@@ -19,8 +19,7 @@ sized c = (c.records_at-records.ensures.1, c.requires.small)
 
 -- What was answered of the record read is whether the listed state's record is wrong.
 answered : (c : After-record_bad)
-    →
-    let a = c.args in
+    → let a = c.args in
     c.record_bad.result ≡ wrong a.x.now a.n a.k c.loop-i.i
 answered c =
     let a = c.args in

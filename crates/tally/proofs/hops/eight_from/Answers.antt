@@ -1,5 +1,4 @@
 use mathlib.Core.Path.{refl}
-use Prim.Native.Nat.{◌-◌}
 use native.Mathlib.Omega.{arith}
 use Rattle.words.proofs.Put.{put_none, put_more, put_read}
 use Rattle.tally.proofs.hops.eight_from.Goals as goal

@@ -1,5 +1,4 @@
 use mathlib.Core.Path.{◌≡◌, refl, subst}
-use Prim.Native.Nat.{◌-◌}
 use native.Mathlib.Omega.{arith}
 use Rattle.words.proofs.Put.{Put, put_none, put_more}
 use Rattle.tally.proofs.hops.put_hops.Goals as goal
