@@ -1,5 +1,5 @@
--- After each test the number is decided by the grounds that are left; `Past` has the places past each ground.
--- The places past each ground: what was read there, the grounds that are left, and what is known of the image.
+-- After each test the number is decided by the grounds that are left.
+-- First stand the places past each ground: what was read there, the grounds that are left, and what is known of the image. The answers follow.
 use mathlib.Core.Path.{sym, ◌∙◌, ◌≡◌, ap}
 use native.Mathlib.Omega.{arith}
 use borrow.Author.Tests.{le-leb, lt-leb}

@@ -1,5 +1,5 @@
--- After each test the number is decided by the grounds that are left; `Past` has the places past each ground.
--- The places past each ground: what was read there, the grounds that are left, and what is known of the patch.
+-- After each test the number is decided by the grounds that are left.
+-- First stand the places past each ground: what was read there, the grounds that are left, and what is known of the patch. The answers follow.
 use mathlib.Core.Path.{sym, ◌∙◌, ◌≡◌, ap}
 use native.Mathlib.Omega.{arith}
 use Rattle.paper.proofs.Tests.{holds_differ, same_differ}

@@ -7,35 +7,27 @@ use Rattle.rows.proofs.Level.{After, level_asks, after_filled, after_passed}
 use Rattle.rows.proofs.fill_level.Goals as goal
 use Rattle.rows.proofs.fill_level.Goals.{else-long-s, then-long-s}
 
--- src/lib.rt:69:5
 pub loop-s-init : goal.loop-s-init
 loop-s-init c = (omega arith, c.requires.0, c.requires.1, c.requires.2, λ rs P F. F)
 
--- src/lib.rt:70:12
 pub offset_bounds-long-s : goal.offset_bounds-long-s
 offset_bounds-long-s c = let P = c.requires.6.1 in omega (arith, P.few)
 
--- src/lib.rt:70:12
 pub bounds-long-s : goal.bounds-long-s
 bounds-long-s c = let P = c.requires.6.1 in omega (arith, P.few)
 
--- src/lib.rt:71:26
 pub offset_bounds-parent-s : goal.offset_bounds-parent-s
 offset_bounds-parent-s c = let P = c.requires.6.1 in omega (arith, P.few)
 
--- src/lib.rt:71:26
 pub bounds-parent-s : goal.bounds-parent-s
 bounds-parent-s c = let P = c.requires.6.1 in omega (arith, P.few)
 
--- src/lib.rt:71:17
 pub wide-p-requires : goal.wide-p-requires
 wide-p-requires c = tt
 
--- src/lib.rt:72:31
 pub bounds-last-s : goal.bounds-last-s
 bounds-last-s c = let P = c.requires.6.1 in omega (arith, P.few)
 
--- src/lib.rt:72:17
 pub wide_byte-requires : goal.wide_byte-requires
 wide_byte-requires c = tt
 
@@ -45,7 +37,6 @@ bounds-classes-wide_byte c = omega (arith, c.wide_byte.ensures.1)
 pub wide_byte-a-requires : goal.wide_byte-a-requires
 wide_byte-a-requires c = tt
 
--- src/lib.rt:73:13
 pub fill_state-requires : goal.fill_state-requires
 fill_state-requires c =
     let l = c.loop-s in
@@ -56,11 +47,9 @@ fill_state-requires c =
     (l.invariant.4 rs P F) c.if-long-s.true c.requires.3 c.wide-p.result c.wide_byte.result c.wide_byte-a.result c.wide-p.ensures c.wide_byte.ensures.0 c.wide_byte-a.ensures.0 in
     (l.invariant.1, l.invariant.2, q₁, q₂, q₃, q₄, q₅, q₆, c.requires.4, l.invariant.3)
 
--- src/lib.rt:69:9
 pub overflow_step-s : goal.overflow_step-s
 overflow_step-s c = let P = c.requires.6.1 in omega (arith, P.few)
 
--- src/lib.rt:69:5
 pub loop-s-preserved : goal.loop-s-preserved
 loop-s-preserved c =
     let l = c.loop-s in
@@ -78,7 +67,6 @@ loop-s-preserved c =
     ] in
     (omega arith, r.0, r.1, r.2, r.3)
 
--- src/lib.rt:62:1
 pub returns : goal.returns
 returns c =
     let l = c.loop-s in

@@ -2,7 +2,6 @@
 use Rattle.rows.proofs.Read.{state_done}
 use Rattle.rows.proofs.fill_state.Goals as goal
 
--- src/lib.rt:49:1
 pub returns : goal.returns
 returns c =
     let a = c.args in
