@@ -2,6 +2,7 @@
 mkdir -p target/bin
 for program in $programs; do
     said=$(mktemp)
+    rm -f "crates/$program/out/$program"
     (cd "crates/$program" && rt run </dev/null) >"$said" 2>&1 || true
     [ -x "crates/$program/out/$program" ] || {
         tail -20 "$said"

@@ -1,4 +1,4 @@
-// The front door: the operations as Rattle and C call them. Each answers for all input that it can be handed.
+// The front door: the operations as Rattle calls them, and as crate `kamordast_c` hands them to C. Each answers for all input that it can be handed.
 // For a Rattle caller that opens an accepted image once and reads it, the view and its readers are handed on; what they ask stands in crate `view`.
 #![tactic(auto)]
 
