@@ -7,7 +7,7 @@
 out=$(mktemp -d)
 trap 'rm -rf "$out"' EXIT
 . scripts/archive.sh
-clang=$(dirname "$(readlink -f "$(command -v rt)")")/../on/x86_64/toolchain/bin/clang
+clang=$(dirname "$(readlink -f "$(command -v rt)")")/../toolchain/bin/clang
 for source in bench/plain_*.c; do
     $clang -std=c11 -Wall -Wextra -Werror -O3 -c -isystem "$($CC -print-file-name=include)" -isystem /usr/include/x86_64-linux-gnu -Iinclude -Ibench \
         -o "$out/$(basename "$source" .c).o" "$source"

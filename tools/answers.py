@@ -20,33 +20,8 @@ class Left(Exception):
     pass
 
 
-def mutable_params(root):
-    """The parameters of each function that are lent by &mut, by the function's name."""
-    out = {}
-    for p in glob.glob(os.path.join(root, "crates", "*", "src", "**", "*.rt"), recursive=True):
-        t = open(p, encoding="utf-8").read()
-        for m in re.finditer(r"\bfn (\w+)(?:<[^>(]*>)?\(([^)]*)\)", t):
-            ps = []
-            for q in re.split(r",\s*(?![^<\[]*[>\]])", m.group(2)):
-                q = q.strip()
-                if not q:
-                    continue
-                if q.startswith("&mut self"):
-                    ps.append("self")
-                    continue
-                if ":" not in q:
-                    continue
-                name, ty = q.split(":", 1)
-                name = name.strip().removeprefix("mut ").strip()
-                if ty.strip().startswith("&") and "mut " in ty:
-                    ps.append(name)
-            out.setdefault(m.group(1), ps)
-    return out
-
-
 class Names:
-    def __init__(self, mod, muts, crate_fns):
-        self.muts = muts
+    def __init__(self, mod):
         self.needs, self.needs_new = {}, {}
         self.need_place = {}
         self.new_goals = [b for a, b in mod["needs"]]
@@ -252,10 +227,6 @@ def resolve(body, roots, names, starts, helpers, goal=None):
     """Rewrites each path from a place: flat for a field, and a bare place by the place that is wanted."""
     alias = {r: (r, roots[r], None) for r in roots}
     P = r"%s(?:\.before)*" % W
-
-    def go(e):
-        r, place, st = e
-        return e
 
     def place_expr(e):
         e = e.strip()
@@ -670,12 +641,12 @@ def merged(uses):
     return [f"use {k}.{{{', '.join(items[k])}}}" if items[k] else k for k in order]
 
 
-def turn(crate, root, folder, mod, muts):
+def turn(crate, root, folder, mod):
     path = os.path.join(folder, "Proof.antt")
     text = open(path, encoding="utf-8").read()
     if "tie.close" not in text:
         raise Left("it is written by hand")
-    names = Names(mod, muts, None)
+    names = Names(mod)
     rel = os.path.relpath(folder, os.path.join(root, "crates", crate, "proofs"))
     modpath = f"Rattle.{crate}.proofs." + rel.replace("/", ".")
     head, uses, decls = blocks(re.sub(r"(?m)^mod \w+\n", "", text))
@@ -688,7 +659,6 @@ def turn(crate, root, folder, mod, muts):
     inv, helpers, answers, notes = [], [], [], []
     starts = {}
     loopnames = {}
-    places = []
     for d in decls:
         sig, unf, eqs = split_decl(d)
         ty = re.sub(r"^(?:(?:abbrev|unfoldable|pub) )*%s :\s*" % re.escape(d[1]), "", sig).strip()
@@ -778,7 +748,6 @@ def turn(crate, root, folder, mod, muts):
             rest = loops_in(rest)
         rest = re.sub(r"\.inv(?![\w-])", ".invariant", tie_places(turn_branches(rest, names)))
         lead = eqs[: m.end()]
-        sep = "\n" if "\n" in lead else " "
         gap = lead[lead.rindex("=") + 1:]
         ansbody.append((d[0], g, unf, f"{g} {root}{m.group(3)} ={gap}{rest}"))
     # A file may have the name `goal` for a module of its own.
@@ -841,7 +810,6 @@ def main(argv):
     only = argv[2:]
     crate = os.path.basename(where)
     root = os.path.dirname(os.path.dirname(where))
-    muts = mutable_params(root)
     mods = {}
     for k, v in names.items():
         m = re.match(r"Rattle-\w+-proofs\.(.*)\.Lts$", k)
@@ -857,7 +825,7 @@ def main(argv):
             print(f"left: {f}: no names for it")
             continue
         try:
-            for note in turn(crate, root, folder, mods[f], muts):
+            for note in turn(crate, root, folder, mods[f]):
                 print("look:", note)
             done += 1
         except Left as e:
