@@ -11,18 +11,18 @@ use Rattle.paper.specs.View.{View}
 use Rattle.paper.specs.Image.{default, count, entry_at, image_view}
 use Rattle.image.specs.Passed.{Passed}
 use Rattle.image.specs.Forms.{default_of}
-use Rattle.image.specs.declared.Fallback.{Fallback}
-use Rattle.image.specs.declared.Fallback.TheVariants.{Root, FallsTo}
+use Rattle.image.specs.Forms.{Fallback}
+use Rattle.std.specs.Prelude.{None, Some, unwrap_or}
 use Rattle.image.proofs.Begins.{next_begin, begin_in}
 use Rattle.abreast.specs.Laid.{head_class_of}
 use Rattle.abreast.specs.Keeps.{Above, Stands, StandsIn, in_one}
-use Rattle.abreast.specs.Opened.{row_of, row_above_of, Opened}
+use Rattle.abreast.specs.Opened.{row_of, Opened}
 use Rattle.abreast.proofs.Standing.{stands_first}
 
 -- Where a state falls is the row of its default.
-pub row_above_lem : (f : Fallback) → row_above_of f ≡ row_of (default_of f)
-row_above_lem Root = refl
-row_above_lem (FallsTo d) = refl
+pub row_above_lem : (f : Fallback) → unwrap_or f 512 ≡ row_of (default_of f)
+row_above_lem None = refl
+row_above_lem (Some d) = refl
 
 -- Rows that are those of the defaults.
 pub above_rows : (v : View) {n : ℕ} {up : List ℕ} → ((s : ℕ) → s < n → get_or up s 0 ≡ row_of (v.default s)) → Above v n up

@@ -2,19 +2,12 @@
 use Rattle.std.specs.Prelude.{◌≡◌, List, ℕ, ◌<◌, length}
 use Rattle.std.proofs.Math.Option.{Option, none, some}
 use Rattle.paper.specs.View.{View}
-use Rattle.image.specs.declared.Fallback.{Fallback}
-use Rattle.image.specs.declared.Fallback.TheVariants.{Root, FallsTo}
 use Rattle.abreast.specs.Keeps.{Above, StandsIn}
 
 -- The row of a default: row 512 where there is none.
 abbrev pub row_of : Option ℕ → ℕ
 row_of none = 512
 row_of (some d) = d
-
--- The same of where a state falls.
-abbrev pub row_above_of : Fallback → ℕ
-row_above_of Root = 512
-row_above_of (FallsTo d) = d
 
 -- All entries of all states wait, each in the bytes of its state.
 pub record Opened (v : View) (bytes : ℕ → List ℕ) (n : ℕ) (up place left wait : List ℕ) : Type 0 where

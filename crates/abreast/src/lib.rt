@@ -4,8 +4,8 @@
 // to: 65535 and 0, never written. A class that is not below k is stored by nobody, so its cells count below 1024.
 #![tactic(auto)]
 
-ghost use Rattle.std.specs.Prelude.{◌≡◌, true, false, ℕ, ◌+◌, ◌*◌, ◌≤◌, ◌<◌, length, get_or};
-ghost use Rattle.paper.specs.View.{any_entry, same_as_default};
+ghost use Rattle.std.specs.Prelude.{◌≡◌, true, false, ℕ, List, MatchOption, ◌+◌, ◌*◌, ◌≤◌, ◌<◌, length, get_or};
+ghost use Rattle.paper.specs.View.{View, any_entry, same_as_default};
 ghost use Rattle.paper.specs.Image.{image_view};
 ghost use Rattle.abreast.specs.Rows.{Fell};
 ghost use Rattle.abreast.specs.Laid.{head_class_of, Waits, Kept, AllLaid};
@@ -42,16 +42,15 @@ fn fall(to: &mut [u16; 1026], hop: &mut [u16; 1026], from: usize, at: usize)
     }
 }
 
-// What laying gives: whether an entry was there already; if not, the place, the number and the class of those that wait behind.
-#[derive(Drop)]
+// Where the entries behind those that were laid wait: the place, the number and the class of the first.
+#[derive(Clone, Copy)]
 struct Layer {
-    needless: bool,
     at: u32,
     left: u16,
     class: u16,
 }
 
-// Lays the entries of the two classes from `first` on over the row at a place, up to one that is there already.
+// Lays the entries of the two classes from `first` on over the row at a place; none where one is there already.
 fn lay(
     b: &[u8],
     at: u32,
@@ -61,10 +60,11 @@ fn lay(
     row: usize,
     to: &mut [u16; 1026],
     hop: &mut [u16; 1026],
-) -> Layer
+) -> Option<Layer>
     requires { Waits b.now at first left × (class ≡ head_class_of b.now at left) × (first ≤ 256) × (row + 2 ≤ 1026) × (length to.old ≡ 1026) × (length hop.old ≡ 1026) }
-    ensures { (length to.new ≡ 1026) × (length hop.new ≡ 1026) × (result.needless ≡ true → Kept b.now at first row to.old left)
-        × (result.needless ≡ false → (count : ℕ) × AllLaid b.now at first row left to.old hop.old to.new hop.new count result.at result.left result.class) }
+    ensures { (length to.new ≡ 1026) × (length hop.new ≡ 1026)
+        × MatchOption result (Kept b.now at first row to.old left)
+        (λ layer. (count : ℕ) × AllLaid b.now at first row left to.old hop.old to.new hop.new count layer.at layer.left layer.class) }
 {
     let mut place = at;
     let mut more = left;
@@ -74,12 +74,7 @@ fn lay(
         let cell = row + (c as usize - first);
         let kept = to[cell];
         if kept == t {
-            return Layer {
-                needless: true,
-                at: place,
-                left: more,
-                class: c,
-            };
+            return None;
         }
         to[cell] = t;
         hop[cell] = 1024;
@@ -87,12 +82,11 @@ fn lay(
         more -= 1;
         c = head_class(b, place, more);
     }
-    Layer {
-        needless: false,
+    Some(Layer {
         at: place,
         left: more,
         class: c,
-    }
+    })
 }
 
 // One state in its turn: its row falls from another, and its entries of the two classes are laid over it. True where one of them is what the row fell to.
@@ -120,16 +114,50 @@ pub fn turn(
     if first + 2 <= class as usize {
         return false;
     }
-    let layer = lay(b, place[s], left[s], class, first, 2 * s, to, hop);
-    place[s] = layer.at;
-    left[s] = layer.left;
-    wait[s] = layer.class;
-    layer.needless
+    match lay(b, place[s], left[s], class, first, 2 * s, to, hop) {
+        None => true,
+        Some(layer) => {
+            place[s] = layer.at;
+            left[s] = layer.left;
+            wait[s] = layer.class;
+            false
+        }
+    }
+}
+
+// Where the entries of the states stand: in one image, or in an image with a patch over it.
+pub trait Entries {
+    // The view that the states and their entries make.
+    ghost view: { Self → View };
+
+    // The bytes in which the entries of a state stand.
+    ghost bytes: { Self → ℕ → List ℕ };
+
+    // These bytes.
+    fn bytes_of(&self, s: usize) -> &[u8]
+        requires { s < (view self.now).states }
+        ensures { result.now ≡ bytes self.now s };
+}
+
+// The entries of one image.
+#[derive(Clone, Copy)]
+pub struct OneImage<'a> {
+    pub image: &'a [u8],
+}
+
+impl<'a> Entries for OneImage<'a> {
+    ghost view = { λ e. image_view e.image.now };
+
+    ghost bytes = { λ e. in_one e.image.now };
+
+    fn bytes_of(&self, _s: usize) -> &[u8] {
+        self.image
+    }
 }
 
 // The two classes from `first` on for all states, each after its default. True where some entry is what its default's chain gives.
-pub fn two_classes(
-    image: &[u8],
+pub fn two_classes<E: Entries>(
+    entries: &E,
     n: usize,
     first: usize,
     order: &[u16; 512],
@@ -140,17 +168,18 @@ pub fn two_classes(
     to: &mut [u16; 1026],
     hop: &mut [u16; 1026],
 ) -> bool
-    requires { Fits (image_view image.now) n × Ordered (image_view image.now) n order.now × Above (image_view image.now) n up.now × (first ≤ 256)
+    requires { Fits (E.view entries.now) n × Ordered (E.view entries.now) n order.now × Above (E.view entries.now) n up.now × (first ≤ 256)
         × Long place.old left.old wait.old to.old hop.old × Bottom to.old hop.old
-        × ((s : ℕ) → s < n → StandsIn (image_view image.now) (in_one image.now) first place.old left.old wait.old s) }
+        × ((s : ℕ) → s < n → StandsIn (E.view entries.now) (E.bytes entries.now) first place.old left.old wait.old s) }
     ensures { Long place.new left.new wait.new to.new hop.new
-        × (result ≡ true → any_entry (image_view image.now) (same_as_default (image_view image.now)) ≡ true)
-        × (result ≡ false → Across (image_view image.now) (in_one image.now) n first place.new left.new wait.new to.new hop.new) }
+        × (result ≡ true → any_entry (E.view entries.now) (same_as_default (E.view entries.now)) ≡ true)
+        × (result ≡ false → Across (E.view entries.now) (E.bytes entries.now) n first place.new left.new wait.new to.new hop.new) }
 {
     for i in 0..n {
         let s = order[i] as usize;
         let from = up[s] as usize;
-        if turn(image, first, s, from, place, left, wait, to, hop) {
+        let b = entries.bytes_of(s);
+        if turn(b, first, s, from, place, left, wait, to, hop) {
             return true;
         }
     }

@@ -2,18 +2,8 @@
 ghost use Rattle.std.specs.Prelude.{◌≡◌, length};
 ghost use Rattle.paper.specs.Image.{classes, image_view};
 ghost use Rattle.image.specs.Passed.{Passed};
-ghost use Rattle.abreast.specs.Opened.{row_above_of, Opened};
+ghost use Rattle.abreast.specs.Opened.{Opened};
 ghost use Rattle.abreast.specs.Keeps.{in_one};
-
-// The row that a state falls from: its default's, or row 512.
-pub fn row_above(fallback: image::Fallback) -> u16
-    ensures { result ≡ row_above_of fallback }
-{
-    match fallback {
-        image::Fallback::Root => 512,
-        image::Fallback::FallsTo(d) => d,
-    }
-}
 
 // For each state the row that it falls from, the place of its entries, how many they are, and the class of the first.
 pub fn open_rows(
@@ -32,9 +22,8 @@ pub fn open_rows(
     let mut at = records + 4 * n;
     for s in 0..n {
         let record = image::record_at(image, records + 4 * s);
-        let fallback = record.fallback;
         let count = record.count;
-        up[s] = row_above(fallback);
+        up[s] = record.fallback.unwrap_or(512);
         place[s] = at as u32;
         left[s] = count;
         wait[s] = super::head_class(image, at as u32, count);

@@ -10,10 +10,12 @@ ghost use Rattle.paper.specs.Operations.{filled};
 ghost use Rattle.paper.specs.Patch as patch;
 ghost use Rattle.paper.specs.Patch.{patched_view, applied};
 ghost use Rattle.paper.specs.Promises.{Applies};
+ghost use Rattle.answers.specs.Numbers.{answer_of, length_of};
 ghost use Rattle.words.specs.Placed.{placed};
 ghost use Rattle.apply.specs.Setting.{Setting, Parted, Fitting};
 
-use answers::Built;
+use answers::{Built, Refusal};
+use labels::Labels;
 
 // The number of entries with the patch: the image's and the patch's, less those that the image has for the listed states.
 fn total_of(
@@ -137,26 +139,28 @@ fn fill(
     ending::put_check(room, end + 10);
 }
 
-// Apply: image and patch into a new image.
-pub fn apply<'a>(image: &'a [u8], x: &'a [u8], room: &mut [u8]) -> Built
-    ensures { Applies image.now x.now room.old result.refused result.length room.new }
+// The patch is judged against the image, and the room filled with the applied image; on ground 16 the room is shorter than that. The length of the applied image.
+fn applied_into<'a>(image: &'a [u8], x: &'a [u8], room: &mut [u8]) -> Result<u32, Refusal>
+    ensures { Applies image.now x.now room.old (answer_of result) (length_of result) room.new }
 {
-    let number = judgepatch::judge_patch(image, x);
-    if number != 0 {
-        return answers::not_built(number);
-    }
-    let word = words::get16(image, 0);
-    let n = labels::states_of(word);
-    let m = words::get32(image, 8) as usize;
-    let p = words::get16(x, 0) as usize;
-    let q = words::get32(x, 6) as usize;
+    let both = judgepatch::judged(image, x)?;
+    let n = both.image.n;
+    let m = both.image.m;
+    let p = both.p;
+    let q = both.q;
     let records = image::records_at(image, n, m);
     let own = patch::records_at(x, p, q);
     let total = total_of(image, n, m, records, x, p, q, own);
-    let held = labels::behind(image, 268, n, word);
+    let labels = Labels {
+        bytes: image,
+        at: 268,
+        n,
+        edition: both.image.edition,
+    };
+    let held = labels.behind();
     let whole = ending::image_length(n, total, held);
     if room.len() < whole as usize {
-        return answers::not_built(16);
+        return Err(Refusal::Room);
     }
     let begins = image::begins_of(image, n, m);
     let starts = patch::begins_of(x, p, q);
@@ -165,8 +169,12 @@ pub fn apply<'a>(image: &'a [u8], x: &'a [u8], room: &mut [u8]) -> Built
     fill(
         image, n, held, &begins, records, x, p, &starts, own, total, depth, worst, room,
     );
-    Built {
-        refused: 0,
-        length: whole,
-    }
+    Ok(whole)
+}
+
+// Apply: image and patch into a new image.
+pub fn apply<'a>(image: &'a [u8], x: &'a [u8], room: &mut [u8]) -> Built
+    ensures { Applies image.now x.now room.old result.refused result.length room.new }
+{
+    Built::from(applied_into(image, x, room))
 }

@@ -1,6 +1,7 @@
 -- A search of the rows of all pairs with a floor for each row: a number that no key of its pairs is below.
-use Rattle.std.specs.Prelude.{◌≡◌, Bool, true, List, ℕ, ◌≤◌, ◌<◌, get_or}
-use Rattle.best.specs.Picked.{FoundOrNone, Leads}
+use Rattle.std.specs.Prelude.{◌≡◌, Bool, true, Option, IfSome, List, ℕ, ◌≤◌, ◌<◌, get_or}
+use Rattle.best.specs.declared.Pick.{Pick}
+use Rattle.best.specs.Picked.{Found, Leads}
 
 -- The pair (x, y) stands in one of the first i rows.
 abbrev pub InRows : ℕ → ℕ → ℕ → Type 0
@@ -11,10 +12,10 @@ module _ (n : ℕ) (fits : ℕ → ℕ → Bool) (key : ℕ → ℕ → ℕ) whe
   abbrev pub Floors : List ℕ → Type 0
   Floors low = (x y : ℕ) → x < y → y < n → fits x y ≡ true → get_or low x 0 ≤ key x y
 
-  -- Of the first i rows, with (u, v) found: if the floors were floors before, (u, v) is the best, and they are floors now.
-  pub record Searched (i : ℕ) (low₀ low : List ℕ) (k u v : ℕ) : Type 0 where
-    pub found : FoundOrNone n fits key (InRows i) k u v
-    pub ahead : Floors low₀ → Leads n fits key (InRows i) k u v
+  -- Of the first i rows, with a pair found or none: if the floors were floors before, it is the best, and they are floors now.
+  pub record Searched (i : ℕ) (low₀ low : List ℕ) (found : Option Pick) : Type 0 where
+    pub one : IfSome found (Found n fits key (InRows i))
+    pub ahead : Floors low₀ → Leads n fits key (InRows i) found
     pub floors : Floors low₀ → Floors low
 
 -- For each of the first i rows the new floor is not above the old, and in orders from 2 on it is 0, where the row is not known to hold no pair that fits.

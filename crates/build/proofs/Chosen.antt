@@ -24,9 +24,20 @@ use Rattle.table.proofs.Decided.{Decided}
 use Rattle.chains.specs.Orders.{defaults_view, InRange}
 use Rattle.chains.specs.Sweeps.{Falls}
 use Rattle.chains.proofs.Agrees.{endless-agrees}
+use Rattle.pairs.specs.declared.Tie.TheVariants.{States, Path, Growth}
+use Rattle.choice.specs.declared.Order.{Order}
+use Rattle.choice.specs.declared.Order.TheVariants.{Roots, Start}
+use Rattle.choice.specs.Order.{number_of_order}
 use Rattle.build.specs.Measured.{list_image_of, Fills}
 use Rattle.build.proofs.Lists.{list-falls, list_image}
 use Rattle.build.proofs.Grounds.{refuses, table_refused, table_passed, fills_same}
+
+-- The number of an order is at most 3.
+pub known_order : (o : Order) → number_of_order o ≤ 3
+known_order (Roots States) = omega arith
+known_order (Roots Path) = omega arith
+known_order (Roots Growth) = omega arith
+known_order Start = omega arith
 
 module _ (t : List ℕ) (order D n : ℕ) (def : List ℕ) (N : n ≡ states t) (C : Chosen n (defaults t order D) def) where
   -- The view with the defaults.

@@ -8,10 +8,7 @@ ghost use Rattle.build.specs.Values.{list_bad_of, Values};
 fn default_bad(d: u16, n: usize) -> bool
     ensures { result ≡ default_bad_of n (default_from_of d) }
 {
-    if d == 65535 {
-        return false;
-    }
-    n <= d as usize
+    d != 65535 && n <= d as usize
 }
 
 // 8: the list of defaults is not 2n bytes, or a value in it is neither 65535 nor below n.
@@ -35,10 +32,5 @@ pub fn values_of(ds: &[u8], n: usize) -> [u16; 512]
     requires { (n ≤ 512) × (length ds.now ≡ 2 * n) }
     ensures { Values ds.now n result }
 {
-    let mut values = [0u16; 512];
-    for s in 0..n {
-        let x = words::get16(ds, 2 * s);
-        values[s] = x;
-    }
-    values
+    tally::of_states(n, |s| words::get16(ds, 2 * s))
 }

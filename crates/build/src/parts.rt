@@ -1,5 +1,5 @@
 // Writes the image of a table with its defaults, part by part in their order.
-ghost use Rattle.std.specs.Prelude.{◌≡◌, ◌++◌, ◌+◌, ◌*◌, ◌≤◌, ◌<◌, length};
+ghost use Rattle.std.specs.Prelude.{◌≡◌, ◌++◌, ◌+◌, ◌*◌, ◌≤◌, ◌<◌, List, ℕ, length};
 ghost use Rattle.paper.specs.Below.{each};
 ghost use Rattle.paper.specs.Words.{bytes16};
 ghost use Rattle.paper.specs.Table.{edition, states, classes, start, class_of, behind};
@@ -8,11 +8,14 @@ ghost use Rattle.paper.specs.Image.{image_length_of};
 ghost use Rattle.paper.specs.Results.{front};
 ghost use Rattle.paper.specs.Operations.{filled};
 ghost use Rattle.words.specs.Placed.{placed};
-ghost use Rattle.table.specs.Counted.{Counted};
-ghost use Rattle.chains.specs.Orders.{InRange};
+ghost use Rattle.chains.specs.Orders.{ParentFirst};
 ghost use Rattle.tally.specs.Owned.{list_view};
 ghost use Rattle.build.specs.Pieces.{classes_and_labels, listed_record, kept_entry, kept_row};
 ghost use Rattle.build.specs.Measured.{list_image_of, Measured};
+
+use labels::Labels;
+use table::Table;
+use tally::Defaulted;
 
 // Writes the front: n with the edition, k and start as the table states them, depth and m.
 pub fn put_front(t: &[u8], depth: u16, m: u32, room: &mut [u8])
@@ -26,14 +29,6 @@ pub fn put_front(t: &[u8], depth: u16, m: u32, room: &mut [u8])
     words::put32(room, 8, m);
 }
 
-// Copies the classes and the labels of a table.
-fn put_labels(t: &[u8], n: usize, held: usize, room: &mut [u8])
-    requires { (n ≡ states t.now) × (held ≡ behind t.now) × (262 + 2 * n + 2 * held ≤ length t.now) × (268 + 2 * n + 2 * held ≤ length room.old) }
-    ensures { room.new ≡ placed room.old 12 (classes_and_labels t.now) }
-{
-    words::copy(t, 6, 256 + 2 * n + 2 * held, room, 12);
-}
-
 // Writes two numbers of 16 bits, one behind the other.
 pub fn put_pair(room: &mut [u8], at: usize, x: u16, y: u16)
     requires { at + 4 ≤ length room.old }
@@ -44,97 +39,161 @@ pub fn put_pair(room: &mut [u8], at: usize, x: u16, y: u16)
 }
 
 // Writes the records: the default and the count of each state.
-pub fn put_records(def: &[u16; 512], counts: &[u16; 512], n: usize, room: &mut [u8], at: usize)
+fn put_records(def: &[u16; 512], counts: &[u16; 512], n: usize, room: &mut [u8], at: usize)
     requires { (n ≤ 512) × (at + 4 * n ≤ length room.old) }
     ensures { room.new ≡ placed room.old at (each n (listed_record def.now counts.now)) }
 {
     for s in 0..n {
-        let d = def[s];
-        let count = counts[s];
-        put_pair(room, at + 4 * s, d, count);
+        put_pair(room, at + 4 * s, def[s], counts[s]);
     }
 }
 
 // Writes the entry of class c of state s, whose default is d or which has none, if the state keeps the class; answers the place behind it.
-fn put_entry(
-    t: &[u8],
-    n: usize,
-    k: usize,
-    d: u16,
-    s: usize,
-    c: usize,
-    room: &mut [u8],
-    at: usize,
-) -> usize
-    requires { Counted t.now n k × (s < n) × (c < k) × (¬ (d ≡ 65535) → d < n)
-        × (at + length (kept_entry t.now d s c) ≤ length room.old) }
-    ensures { (result ≡ at + length (kept_entry t.now d s c))
-        × (room.new ≡ placed room.old at (kept_entry t.now d s c)) }
+fn put_entry(t: &Table, d: u16, s: usize, c: usize, room: &mut [u8], at: usize) -> usize
+    requires { (s < t.now.n) × (c < t.now.k) × (¬ (d ≡ 65535) → d < t.now.n)
+        × (at + length (kept_entry t.now.bytes.now d s c) ≤ length room.old) }
+    ensures { (result ≡ at + length (kept_entry t.now.bytes.now d s c))
+        × (room.new ≡ placed room.old at (kept_entry t.now.bytes.now d s c)) }
 {
-    if tally::keeps(t, n, k, d, s, c) {
-        let next = table::next_state(t, n, k, s, c);
-        put_pair(room, at, c as u16, next);
+    if tally::keeps(t, d, s, c) {
+        put_pair(room, at, c as u16, t.next(s, c));
         return at + 4;
     }
     at
 }
 
-// Writes the entries of state s, class by class; answers the place behind them.
-fn put_row(
-    t: &[u8],
-    n: usize,
-    k: usize,
-    def: &[u16; 512],
-    s: usize,
-    room: &mut [u8],
-    at: usize,
-) -> usize
-    requires { Counted t.now n k × InRange n def.now × (s < n) × (at + length (kept_row t.now k def.now s) ≤ length room.old) }
-    ensures { (result ≡ at + length (kept_row t.now k def.now s))
-        × (room.new ≡ placed room.old at (kept_row t.now k def.now s)) }
-{
-    let d = def[s];
-    let mut here = at;
-    for c in 0..k {
-        here = put_entry(t, n, k, d, s, c, room, here);
+// What an image is written from: a table with a default for each state, that is read part by part.
+pub trait Source {
+    // The table.
+    ghost table: { Self → List ℕ };
+
+    // The default of each state, 65535 for none.
+    ghost defaults: { Self → List ℕ };
+
+    // n, the number of states.
+    fn states(&self) -> usize
+        ensures { result ≡ states (table self.now) };
+
+    // How many labels are held behind their counts.
+    fn held(&self) -> usize
+        ensures { result ≡ behind (table self.now) };
+
+    // The defaults.
+    fn def(&self) -> &[u16; 512]
+        ensures { result.now ≡ defaults self.now };
+
+    // The worst, by an order in which each state comes after its default.
+    fn worst_by(&self, order: &[u16; 512]) -> u16
+        requires { ParentFirst (states (table self.now)) (defaults self.now) order.now }
+        ensures { result ≡ worst_hops (list_view (table self.now) (defaults self.now)) (class_of (table self.now)) };
+
+    // Writes the front with this depth and m.
+    fn put_front(&self, depth: u16, m: u32, room: &mut [u8])
+        requires { 12 ≤ length room.old }
+        ensures { let t = table self.now in room.new ≡ placed room.old 0 (front (edition t) (states t) (classes t) (start t) depth m) };
+
+    // The classes and the labels, of which so many are held behind their counts.
+    fn labels(&self, held: usize) -> &[u8]
+        requires { held ≡ behind (table self.now) }
+        ensures { result.now ≡ classes_and_labels (table self.now) };
+
+    // Writes the entries of state s; answers the place behind them.
+    fn put_row(&self, s: usize, room: &mut [u8], at: usize) -> usize
+        requires { let t = table self.now in (s < states t) × (at + length (kept_row t (classes t) (defaults self.now) s) ≤ length room.old) }
+        ensures { let t = table self.now in (result ≡ at + length (kept_row t (classes t) (defaults self.now) s))
+            × (room.new ≡ placed room.old at (kept_row t (classes t) (defaults self.now) s)) };
+}
+
+impl<'t, 'a> Source for Defaulted<'t, 'a> {
+    ghost table = { λ d. d.table.table.bytes.now };
+
+    ghost defaults = { λ d. d.def.now };
+
+    fn states(&self) -> usize {
+        self.table.table.n
     }
-    here
+
+    fn held(&self) -> usize {
+        let Table {
+            bytes,
+            edition,
+            n,
+            ..
+        } = self.table.table;
+        let labels = Labels {
+            bytes,
+            at: 262,
+            n,
+            edition,
+        };
+        labels.behind()
+    }
+
+    fn def(&self) -> &[u16; 512] {
+        self.def
+    }
+
+    fn worst_by(&self, order: &[u16; 512]) -> u16 {
+        self.worst(order)
+    }
+
+    fn put_front(&self, depth: u16, m: u32, room: &mut [u8]) {
+        put_front(self.table.table.bytes, depth, m, room);
+    }
+
+    fn labels(&self, held: usize) -> &[u8] {
+        let Table { bytes, n, .. } = self.table.table;
+        &bytes[6..262 + 2 * n + 2 * held]
+    }
+
+    fn put_row(&self, s: usize, room: &mut [u8], at: usize) -> usize {
+        let t = self.table.table;
+        let d = self.def[s];
+        let mut here = at;
+        for c in 0..t.k {
+            here = put_entry(&t, d, s, c, room, here);
+        }
+        here
+    }
 }
 
 // Writes the entries, state by state; answers the place behind them.
-fn put_entries(t: &[u8], n: usize, k: usize, def: &[u16; 512], room: &mut [u8], at: usize) -> usize
-    requires { Counted t.now n k × InRange n def.now × (at + length (each n (kept_row t.now k def.now)) ≤ length room.old) }
-    ensures { (result ≡ at + length (each n (kept_row t.now k def.now)))
-        × (room.new ≡ placed room.old at (each n (kept_row t.now k def.now))) }
+fn put_entries<S: Source>(source: &S, n: usize, room: &mut [u8], at: usize) -> usize
+    requires { let t = S.table source.now in (n ≡ states t) × (at + length (each n (kept_row t (classes t) (S.defaults source.now))) ≤ length room.old) }
+    ensures { let t = S.table source.now in (result ≡ at + length (each n (kept_row t (classes t) (S.defaults source.now))))
+        × (room.new ≡ placed room.old at (each n (kept_row t (classes t) (S.defaults source.now)))) }
 {
     let mut here = at;
     for s in 0..n {
-        here = put_row(t, n, k, def, s, room, here);
+        here = source.put_row(s, room, here);
     }
     here
 }
 
+// What an image counts and states: n states, so many labels held behind their counts, the count of each state, all m entries, depth and worst.
+#[derive(Clone, Copy)]
+pub struct Figures<'a> {
+    pub n: usize,
+    pub held: usize,
+    pub counts: &'a [u16; 512],
+    pub m: u32,
+    pub depth: u16,
+    pub worst: u16,
+}
+
 // Writes the image of a table with its defaults, part by part.
-pub fn emit(
-    t: &[u8],
-    n: usize,
-    k: usize,
-    held: usize,
-    def: &[u16; 512],
-    counts: &[u16; 512],
-    m: u32,
-    depth: u16,
-    worst: u16,
-    room: &mut [u8],
-)
-    requires { Measured t.now n k held def.now counts.now m × (depth ≡ depth_of (list_view t.now def.now))
-        × (worst ≡ worst_hops (list_view t.now def.now) (class_of t.now)) × (image_length_of n m held ≤ length room.old) }
-    ensures { room.new ≡ filled (list_image_of t.now def.now) room.old }
+pub fn emit<S: Source>(source: &S, f: &Figures, room: &mut [u8])
+    requires { let t = S.table source.now in let def = S.defaults source.now in
+        Measured t f.now.n (classes t) f.now.held def f.now.counts.now f.now.m × (f.now.depth ≡ depth_of (list_view t def))
+        × (f.now.worst ≡ worst_hops (list_view t def) (class_of t)) × (image_length_of f.now.n f.now.m f.now.held ≤ length room.old) }
+    ensures { room.new ≡ filled (list_image_of (S.table source.now) (S.defaults source.now)) room.old }
 {
-    put_front(t, depth, m, room);
-    put_labels(t, n, held, room);
-    put_records(def, counts, n, room, 268 + 2 * n + 2 * held);
-    let end = put_entries(t, n, k, def, room, 268 + 6 * n + 2 * held);
-    ending::put_trailer(n, m, held, worst, room, end);
+    let n = f.n;
+    let held = f.held;
+    source.put_front(f.depth, f.m, room);
+    words::put_bytes(room, 12, source.labels(held));
+    put_records(source.def(), f.counts, n, room, 268 + 2 * n + 2 * held);
+    let end = put_entries(source, n, room, 268 + 6 * n + 2 * held);
+    ending::put_trailer(n, f.m, held, f.worst, room, end);
     ending::put_check(room, end + 10);
 }

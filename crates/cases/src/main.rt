@@ -50,9 +50,8 @@ fn try_scan(table: &[u8]) {
 
 // The text of an input is the text given.
 fn prints(input: &[u8], text: &[u8]) -> bool {
-    let mut out = io::buffer();
-    let end = printed::text_of(input, &mut out);
-    check::same(&out[..end], text)
+    let printed = printed::text_of(input);
+    check::same(printed.as_slice(), text)
 }
 
 // What the program `bounds` prints of T, of a table cut short, and of an input of 30,001 bytes.

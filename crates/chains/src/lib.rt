@@ -1,30 +1,19 @@
 // The states each after its default, the depth, and for one class what every chain gives and after how many hops.
 #![tactic(auto)]
 
-ghost use Rattle.std.specs.Prelude.{◌≡◌, false, ℕ, ◌≤◌, ◌<◌, length, get_or};
+ghost use Rattle.std.specs.Prelude.{◌≡◌, [], ◌∷◌, ℕ, ◌≤◌, ◌<◌, length, get_or, IfOk};
 ghost use Rattle.std.proofs.Math.Option.{some};
 ghost use Rattle.paper.specs.Below.{any};
+ghost use Rattle.paper.specs.Refusals.{first};
+ghost use Rattle.answers.specs.Numbers.{answer_of};
 ghost use Rattle.paper.specs.View.{endless, depth_of};
 ghost use Rattle.paper.specs.Image.{default_from_of};
 ghost use Rattle.chains.specs.Orders.{defaults_view, InRange, ChainLength, ParentFirst};
 ghost use Rattle.chains.specs.Sweeps.{RootsStore, kept_at, reckoned, Resolves};
 
+use answers::Refusal;
+
 mod setting;
-
-// A number of 16 bits as an index.
-fn wide(x: u16) -> usize
-    ensures { result ≡ x }
-{
-    x as usize
-}
-
-// The state at a place of an order.
-fn state_at(order: &[u16; 512], n: usize, i: usize) -> usize
-    requires { (n ≤ 512) × (i < n) × (get_or order.now i 0 < n) }
-    ensures { (result ≡ get_or order.now i 0) × (result < n) }
-{
-    wide(order[i])
-}
 
 // The length of the chain of s, where that of its default's chain is known.
 fn length_at(def: &[u16; 512], len: &[u16; 512], n: usize, s: usize) -> u16
@@ -36,7 +25,7 @@ fn length_at(def: &[u16; 512], len: &[u16; 512], n: usize, s: usize) -> u16
     if d == 65535 {
         return 0;
     }
-    len[wide(d)] + 1
+    len[d as usize] + 1
 }
 
 // The length of each state's chain, in an order in which each state comes after its default.
@@ -46,42 +35,33 @@ fn lengths(def: &[u16; 512], order: &[u16; 512], n: usize) -> [u16; 512]
 {
     let mut len = [0u16; 512];
     for i in 0..n {
-        let s = state_at(order, n, i);
+        let s = order[i] as usize;
         let l = length_at(def, &len, n, s);
         len[s] = l;
     }
     len
 }
 
-// Whether some chain of defaults has no end; if none has, the depth and an order of the states in which each comes after its default.
+// The depth of defaults whose chains all end, and an order of the states in which each comes after its default.
 #[derive(Drop)]
 pub struct Order {
-    pub endless: bool,
     pub depth: u16,
     pub order: [u16; 512],
 }
 
-// 11: sets the states out after their defaults. Each state is set down once, so this takes steps in proportion to n.
-pub fn order_of(def: &[u16; 512], n: usize) -> Order
+// 11: some chain of defaults has no end. Else the states are set out after their defaults. Each state is set down once, so this takes steps in proportion to n.
+pub fn order_of(def: &[u16; 512], n: usize) -> Result<Order, Refusal>
     requires { (n ≤ 512) × InRange n def.now }
-    ensures { (result.endless ≡ any n (endless (defaults_view n def.now)))
-        × (result.endless ≡ false → (result.depth ≡ depth_of (defaults_view n def.now)) × ParentFirst n def.now result.order) }
+    ensures endless { answer_of result ≡ first ((11, any n (endless (defaults_view n def.now))) ∷ []) }
+    ensures ordered { IfOk result (λ o. (o.depth ≡ depth_of (defaults_view n def.now)) × ParentFirst n def.now o.order) }
 {
     let mut order = [0u16; 512];
     if setting::set_out(def, n, &mut order) {
-        return Order {
-            endless: true,
-            depth: 0,
-            order,
-        };
+        return Err(Refusal::Endless);
     }
     let len = lengths(def, &order, n);
-    let depth = words::largest(&len, n, 0);
-    Order {
-        endless: false,
-        depth,
-        order,
-    }
+    let depth = words::most(&len[..n], 0);
+    Ok(Order { depth, order })
 }
 
 // What a look-up finds: the next state, and the hops to the state that stores it.
@@ -106,7 +86,7 @@ fn found_at(
     if t != 65535 {
         return Found { target: t, hops: 0 };
     }
-    let d = wide(def[s]);
+    let d = def[s] as usize;
     let target = to[d];
     let hops = hop[d] + 1;
     Found { target, hops }
@@ -125,7 +105,7 @@ pub fn resolve(
     ensures { Resolves n def.now own.now to.new hop.new }
 {
     for i in 0..n {
-        let s = state_at(order, n, i);
+        let s = order[i] as usize;
         let f = found_at(def, own, to, hop, s);
         to[s] = f.target;
         hop[s] = f.hops;

@@ -12,7 +12,7 @@ use Rattle.paper.specs.Words.{number16}
 use Rattle.paper.specs.View.{record_bad_of}
 use Rattle.paper.specs.Image.{states, classes, records_at_of, default, count, image_view}
 use Rattle.image.specs.declared.Record.{Record}
-use Rattle.image.specs.declared.Fallback.TheVariants.{Root, FallsTo}
+use Rattle.std.specs.Prelude.{None, Some}
 use Rattle.image.specs.Forms.{record_at_of}
 use Rattle.image.proofs.Cases.{default_from}
 use Rattle.contents.specs.Counted.{Counted, Records}
@@ -25,12 +25,12 @@ module _ (n k : ℕ) (r : Record) where
   record_high h = rw (lt-ltb k r.count h, or-true)
 
   -- A count up to k without a default.
-  pub record_root : r.count ≤ k → r.fallback ≡ Root → differ r.count k ≡ record_wrong n k r
+  pub record_root : r.count ≤ k → r.fallback ≡ None → differ r.count k ≡ record_wrong n k r
   unfolding record_wrong
   record_root h e = rw (e, le-ltb k r.count h)
 
   -- A count up to k with a default.
-  pub record_falls : (d : ℕ) → r.count ≤ k → r.fallback ≡ FallsTo d → leb n d ≡ record_wrong n k r
+  pub record_falls : (d : ℕ) → r.count ≤ k → r.fallback ≡ Some d → leb n d ≡ record_wrong n k r
   unfolding record_wrong
   record_falls d h e = rw (e, le-ltb k r.count h, or-false)
 

@@ -25,13 +25,10 @@ fn class_bad(row: &[u8], k: usize, j: usize) -> bool
 pub fn row_bad(row: &[u8], k: usize) -> bool
     ensures { result ≡ any (length row.now / 4) (class_wrong k row.now) }
 {
-    let count = row.len() / 4;
-    let mut j = 0;
-    while j < count {
+    for j in 0..row.len() / 4 {
         if class_bad(row, k, j) {
             return true;
         }
-        j += 1;
     }
     false
 }
@@ -41,12 +38,10 @@ pub fn entry_classes_bad(b: &[u8], begins: &[u32; 513], n: usize, k: usize) -> b
     requires { Laid b.now × Begins b.now begins.now × (n ≡ states b.now) × (k ≡ classes b.now) }
     ensures { result ≡ any_entry (image_view b.now) (entry_class_bad (image_view b.now)) }
 {
-    let mut s = 0;
-    while s < n {
+    for s in 0..n {
         if row_bad(image::entries_of(b, begins, s), k) {
             return true;
         }
-        s += 1;
     }
     false
 }
@@ -58,10 +53,8 @@ pub fn next_bad(b: &[u8], n: usize, m: usize) -> bool
 {
     let from = b.len() - (4 * m + 12);
     let mut most = 0;
-    let mut j = 0;
-    while j < m {
-        most = words::larger(words::get16(b, from + 4 * j + 2), most);
-        j += 1;
+    for j in 0..m {
+        most = words::get16(b, from + 4 * j + 2).max(most);
     }
     n <= most as usize
 }

@@ -14,10 +14,9 @@ pub fn record_bad(read: image::Record, n: usize, k: usize) -> bool
     if k < count {
         return true;
     }
-    let fallback = read.fallback;
-    match fallback {
-        image::Fallback::Root => count != k,
-        image::Fallback::FallsTo(d) => n <= d as usize,
+    match read.fallback {
+        None => count != k,
+        Some(d) => n <= d as usize,
     }
 }
 
@@ -26,12 +25,10 @@ fn some_record_bad(b: &[u8], records: usize, n: usize, k: usize) -> bool
     requires { Records b.now n records × (k ≡ classes b.now) }
     ensures { result ≡ any (states b.now) (record_bad_of (image_view b.now)) }
 {
-    let mut s = 0;
-    while s < n {
+    for s in 0..n {
         if record_bad(image::record_at(b, records + 4 * s), n, k) {
             return true;
         }
-        s += 1;
     }
     false
 }
@@ -42,10 +39,8 @@ fn counts_sum(b: &[u8], records: usize, n: usize) -> usize
     ensures { result ≡ sum (states b.now) (count b.now) }
 {
     let mut total: usize = 0;
-    let mut s = 0;
-    while s < n {
+    for s in 0..n {
         total += words::get16(b, records + 4 * s + 2) as usize;
-        s += 1;
     }
     total
 }
@@ -56,8 +51,5 @@ pub fn records_bad(b: &[u8], n: usize, k: usize, m: usize) -> bool
     ensures { result ≡ (any (states b.now) (record_bad_of (image_view b.now)) || differ (sum (states b.now) (count b.now)) (entries b.now)) }
 {
     let records = image::records_at(b, n, m);
-    if some_record_bad(b, records, n, k) {
-        return true;
-    }
-    counts_sum(b, records, n) != m
+    some_record_bad(b, records, n, k) || counts_sum(b, records, n) != m
 }

@@ -18,7 +18,7 @@ use Rattle.facts.proofs.ImageFacts.{AcceptedImage, accepted_image}
 use Rattle.trips.proofs.Agree.{find_same}
 use Rattle.trips.proofs.Moved.{moved-reads, moved_accepted}
 use Rattle.trips.proofs.Moves.{FewFor, forward_leaves, back_leaves}
-use Rattle.running.proofs.Rules.{image_rules}
+use Rattle.running.specs.Rules.{image_rules}
 use Rattle.running.proofs.Equal.{Equal, runs_equal}
 use Rattle.running.proofs.Verdict.{verdict_judged, verdict_clear}
 use Rattle.scan.proofs.OneByte.{byte_reached}

@@ -15,11 +15,11 @@ use Rattle.facts.proofs.ImageFacts.{image_accepted}
 use Rattle.facts.proofs.Finds.{look_within}
 use Rattle.facts.proofs.PatchFacts.{AcceptedPatch, accepted_patch}
 use Rattle.trips.proofs.Applied.{applied-reads, applied_facts, applied-look, applied-states}
-use Rattle.running.proofs.Rules.{image_rules}
+use Rattle.running.specs.Rules.{image_rules}
 use Rattle.running.proofs.Equal.{Equal, runs_equal}
 use Rattle.running.proofs.Verdict.{verdict_judged, verdict_clear}
 use Rattle.scan.proofs.Verdict.{image_numbered}
-use Rattle.patchscan.proofs.Found.{patched_rules}
+use Rattle.patchscan.specs.Rules.{patched_rules}
 use Rattle.patchscan.proofs.Verdict.{patch_numbered}
 use Rattle.demands.proofs.MovedScans.{outcomes_equal}
 

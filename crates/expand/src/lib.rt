@@ -1,47 +1,43 @@
 // Expand: an image into the table that it stands for. The rows are set down in the room itself, that of each state after that of its default.
 #![tactic(auto)]
 
-ghost use Rattle.std.specs.Prelude.{◌≡◌, ◌≤◌, length};
-ghost use Rattle.paper.specs.Image.{states, classes};
-ghost use Rattle.paper.specs.Results.{table_of};
-ghost use Rattle.paper.specs.Operations.{filled};
 ghost use Rattle.paper.specs.Promises.{Expands};
-ghost use Rattle.facts.proofs.ImageFacts.{AcceptedImage};
-ghost use Rattle.spread.specs.Rows.{row_at};
-ghost use Rattle.spread.specs.Front.{rows_at};
+ghost use Rattle.answers.specs.Numbers.{answer_of, length_of};
 
-// Fills the first bytes of the room with the table of an accepted image.
-fn fill(image: &[u8], first: usize, n: usize, k: usize, room: &mut [u8])
-    requires { AcceptedImage image.now × (first ≡ rows_at image.now) × (n ≡ states image.now) × (k ≡ classes image.now) × (row_at first k n ≤ length room.old) }
-    ensures { room.new ≡ filled (table_of image.now) room.old }
+use answers::{Built, Refusal};
+use image::Image;
+use spread::Spread;
+
+// The image is judged, and the room filled with its table; on ground 16 the room is shorter than that. The length of the table.
+fn expand_into(bytes: &[u8], room: &mut [u8]) -> Result<u32, Refusal>
+    ensures { Expands bytes.now room.old (answer_of result) (length_of result) room.new }
 {
-    let m = words::get32(image, 8) as usize;
-    let begins = image::begins_of(image, n, m);
-    let def = sweep::defaults_of(image, n, m);
-    let chains = chains::order_of(&def, n);
-    spread::put_front(image, first, room);
-    spread::put_rows(image, first, n, k, &begins, &def, &chains.order, room);
+    let image = judge::judged(bytes)?;
+    let Image { bytes, n, k, m, .. } = image;
+    let held = image.labels().behind();
+    let first = 262 + 2 * n + 2 * held;
+    let length = spread::row_at(first, k, n);
+    if room.len() < length {
+        return Err(Refusal::Room);
+    }
+    let begins = image::begins_of(bytes, n, m);
+    let def = sweep::defaults_of(bytes, n, m);
+    // No chain of an accepted image is endless, so this refuses nothing.
+    let chains = chains::order_of(&def, n)?;
+    let spread = Spread {
+        image,
+        first,
+        begins: &begins,
+        def: &def,
+    };
+    spread::put_front(bytes, first, room);
+    spread.put_rows(&chains.order, room);
+    Ok(length as u32)
 }
 
 // Expand: image into table. Every row is copied once and every entry put once, so the steps are in proportion to n k + m.
-pub fn expand(image: &[u8], room: &mut [u8]) -> answers::Built
+pub fn expand(image: &[u8], room: &mut [u8]) -> Built
     ensures { Expands image.now room.old result.refused result.length room.new }
 {
-    let number = judge::judge_image(image);
-    if number != 0 {
-        return answers::not_built(number);
-    }
-    let word = words::get16(image, 0);
-    let n = labels::states_of(word);
-    let k = words::get16(image, 2) as usize;
-    let first = 262 + 2 * n + 2 * labels::behind(image, 268, n, word);
-    let length = spread::row_at(first, k, n);
-    if room.len() < length {
-        return answers::not_built(16);
-    }
-    fill(image, first, n, k, room);
-    answers::Built {
-        refused: 0,
-        length: length as u32,
-    }
+    Built::from(expand_into(image, room))
 }

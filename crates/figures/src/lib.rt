@@ -23,12 +23,12 @@ pub struct Figures {
 }
 
 // Counts one for a state that falls to another, and none for a root.
-fn falls(fallback: kamordast::Fallback) -> u16
+fn falls(fallback: Option<u16>) -> u16
     ensures { result ≡ bit (given (default_of fallback)) }
 {
     match fallback {
-        kamordast::Fallback::Root => 0,
-        kamordast::Fallback::FallsTo(_) => 1,
+        None => 0,
+        Some(_) => 1,
     }
 }
 
@@ -39,9 +39,7 @@ fn defaults_in(image: &[u8], n: u16) -> u16
 {
     let mut count: u16 = 0;
     for s in 0..n {
-        let record = kamordast::record_from(image, s);
-        let fallback = record.fallback;
-        count += falls(fallback);
+        count += falls(kamordast::record_from(image, s).fallback);
     }
     count
 }

@@ -4,11 +4,10 @@ use mathlib.Core.Bool.{Bool, true, false, ◌&&◌, true≢false}
 use mathlib.Core.Logic.{◌⊎◌, inl, inr}
 use mathlib.Core.List.{List}
 use Prim.Native.Nat.{ℕ, ◌+◌, ◌*◌, ◌≤◌, ◌<◌}
-use native.Mathlib.Numerals.{add-one}
 use native.Mathlib.Omega.{arith}
 use native.Mathlib.Decide.{ℕ_discrete}
 use lib.Dec.{eqb}
-use lib.ListN.{length, get_or, set, length-set}
+use lib.ListN.{length, get_or, set}
 use borrow.Author.Tests.{eq-eqb, ne_eqb, eqb-true, eqb-false, not-true}
 use Rattle.paper.specs.Below.{sum, bit, how_many_of, differ}
 use Rattle.paper.specs.Forest.{Trees, neighbours}
@@ -50,16 +49,6 @@ module _ (parent near : List ℕ) (i : ℕ) (N : NeighboursIn parent near i) whe
   -- After one more at a place they still are.
   pub more_small : (y : ℕ) → y < 512 → i < length near → get_or (more near i) y 0 ≤ i * 2 + 1
   more_small y yb long = omega (arith, more_at near i y long, near_small y yb, bit_le (eqb i y))
-
-  -- A state that is its own parent counts nothing.
-  pub near_kept : get_or parent i 0 ≡ i → NeighboursIn parent near (i + 1)
-  near_kept e y yb = rw (add-one i, eq-eqb (get_or parent i 0) i e) (omega (arith, N y yb))
-
-  -- Any other counts one at itself and one at its parent.
-  pub near_more : ¬ (get_or parent i 0 ≡ i) → i < length near → get_or parent i 0 < length near → NeighboursIn parent (more (more near i) (get_or parent i 0)) (i + 1)
-  near_more ne long long' y yb =
-      let long'' : get_or parent i 0 < length (more near i) = rw length-set long' in
-      rw (add-one i, ne_eqb (get_or parent i 0) i ne) (omega (arith, more_at near i y long, more_at (more near i) (get_or parent i 0) y long'', N y yb))
 
 -- A second test that fails.
 and_false : (a : Bool) → a && false ≡ false

@@ -1,15 +1,10 @@
 -- A test that is to pass at every number below n, looked at one after the other.
 use mathlib.Core.Path.{◌≡◌, refl, sym, ◌∙◌, ap₂}
-use mathlib.Core.Bool.{Bool, true, false, ◌&&◌, true≢false}
-use Prim.Native.Nat.{ℕ, zero, suc, ◌+◌, ◌<◌}
-use native.Mathlib.Numerals.{add-one}
+use mathlib.Core.Bool.{Bool, false, ◌&&◌, true≢false}
+use Prim.Native.Nat.{ℕ, zero, suc, ◌<◌}
 use native.Mathlib.Omega.{arith}
 use Rattle.paper.specs.Below.{every}
 use Rattle.paper.proofs.Below.{bool_false, every_at}
-
--- It passes at all so far and at the next.
-pub every_more : (i : ℕ) (p : ℕ → Bool) → every i p ≡ true → p i ≡ true → every (i + 1) p ≡ true
-every_more i p h e = rw (add-one i, h, e)
 
 -- One at which it fails is enough.
 pub every_fails : (n i : ℕ) (p : ℕ → Bool) → i < n → p i ≡ false → every n p ≡ false

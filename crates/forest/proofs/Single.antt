@@ -1,18 +1,13 @@
 -- The arrays that the build starts with hold single states.
 use mathlib.Core.Path.{◌≡◌, refl, sym}
 use mathlib.Core.List.{List}
-use Prim.Native.Nat.{ℕ, ◌+◌, ◌<◌}
+use Prim.Native.Nat.{ℕ, ◌<◌}
 use native.Mathlib.Omega.{arith}
-use lib.ListN.{length, get_or, set}
+use lib.ListN.{get_or}
 use Rattle.paper.specs.Forest.{singles}
 use Rattle.trees.proofs.Farthest.{d_least}
 use Rattle.trees.proofs.Grown.{singles_grown}
-use Rattle.joining.proofs.Filled.{get_d_set}
 use Rattle.forest.specs.Single.{Own, Single}
-
--- One place more holds its own number.
-pub own_more : (own : List ℕ) (i : ℕ) → i < length own → Own own i → Own (set own i i) (i + 1)
-own_more own i long O x l = get_d_set (λ a. a ≡ x) own i x i long (λ e. sym e) (λ ne. O x (omega arith))
 
 -- Distances 0, and each state its own parent and its own tree.
 pub alone : (far own : List ℕ) → ((x : ℕ) → x < 512 → get_or far x 0 ≡ 0) → Own own 512 → Single far own own

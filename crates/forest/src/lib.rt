@@ -4,6 +4,7 @@
 ghost use Rattle.std.specs.Prelude.{◌≡◌, ◌*◌, ◌≤◌, ◌<◌};
 ghost use Rattle.weights.specs.Weighed.{weight_in};
 ghost use Rattle.weights.specs.Named.{Named};
+ghost use Rattle.pairs.specs.Tie.{order_number};
 ghost use Rattle.joining.specs.Filled.{Replaced};
 ghost use Rattle.joining.specs.Rooted.{Low};
 ghost use Rattle.forest.specs.Single.{Own, Single};
@@ -12,16 +13,13 @@ ghost use Rattle.forest.specs.Settled.{stays_root_of, root_in, Settles};
 ghost use Rattle.forest.specs.Chosen.{FindsRoots};
 
 use joining::Forest;
+use pairs::Tie;
 
 // The numbers 0 to 511.
 fn own_numbers() -> [u16; 512]
     ensures { Own result 512 }
 {
-    let mut own = [0u16; 512];
-    for x in 0..512 {
-        own[x] = x as u16;
-    }
-    own
+    std::array::from_fn(|x| x as u16)
 }
 
 // Single states: distance 0, each its own parent and its own tree.
@@ -56,22 +54,7 @@ fn neighbours_of(parent: &[u16; 512], n: usize) -> [u16; 512]
 fn stays_root(ty: u16, tz: u16, dy: u16, dz: u16, ny: u16, nz: u16, y: usize, z: usize) -> bool
     ensures { result ≡ stays_root_of ty tz dy dz ny nz y z }
 {
-    if ty != tz {
-        return true;
-    }
-    if dy < dz {
-        return true;
-    }
-    if dz < dy {
-        return false;
-    }
-    if nz < ny {
-        return true;
-    }
-    if ny < nz {
-        return false;
-    }
-    y <= z
+    ty != tz || (dy, nz, y) <= (dz, ny, z)
 }
 
 // Whether y is its tree's root: the state with the smallest d, with equal d the most neighbours, with equally many the smallest number.
@@ -89,16 +72,14 @@ fn is_root(d: &[u16; 512], tree: &[u16; 512], near: &[u16; 512], n: usize, y: us
 
 // The parents with each tree turned to its root; the neighbours are counted once, before.
 fn settle(f: Forest, n: usize) -> [u16; 512]
-    requires { (n ≤ 512) × Low f.parent }
+    requires { n ≤ 512 }
     ensures { Settles n f.d f.parent f.tree result n }
 {
-    let d = f.d;
-    let tree = f.tree;
+    let near = neighbours_of(&f.parent, n);
     let mut parent = f.parent;
-    let near = neighbours_of(&parent, n);
     for x in 0..n {
-        if is_root(&d, &tree, &near, n, x) {
-            let turned = joining::turned_to(parent, x, d[x]);
+        if is_root(&f.d, &f.tree, &near, n, x) {
+            let turned = joining::turned_to(parent, x, f.d[x]);
             parent = turned;
         }
     }
@@ -106,6 +87,7 @@ fn settle(f: Forest, n: usize) -> [u16; 512]
 }
 
 // The parents with 65535 for each state that is its own.
+// As `renumber` of `joining`, save that a state's own number goes. One function for both would take it by a closure, and its contract would speak of the closure's calls.
 fn pointers(parent: [u16; 512], n: usize) -> [u16; 512]
     requires { n ≤ 512 }
     ensures { Replaced (λ s. s) 65535 parent result n }
@@ -125,20 +107,12 @@ pub fn defaults_of(
     seen: &[u8; 256],
     n: usize,
     k: usize,
-    order: u8,
+    tie: Tie,
     bound: u16,
 ) -> [u16; 512]
     requires { (n ≤ 512) × (0 < k) × (k ≤ 256) × Named (weight_in weights.now) n (n * 512) seen.now }
-    ensures { FindsRoots n k order bound weights.now result }
+    ensures { FindsRoots n k (order_number tie) bound weights.now result }
 {
-    let f = greedy::take_all(
-        single_states(),
-        weights,
-        seen,
-        n,
-        order,
-        bound,
-        (k - 1) as u8,
-    );
+    let f = greedy::take_all(single_states(), weights, seen, n, tie, bound, (k - 1) as u8);
     pointers(settle(f, n), n)
 }

@@ -1,6 +1,5 @@
 -- Joining the best pair of a weight again and again: what the arrays become.
 use mathlib.Core.Path.{◌≡◌, refl, sym, ◌∙◌}
-use mathlib.Core.Logic.{inl, inr}
 use mathlib.Core.List.{List}
 use Prim.Native.Nat.{ℕ, ◌+◌, ◌≤◌, ◌<◌}
 use native.Mathlib.Omega.{arith}
@@ -18,8 +17,9 @@ use Rattle.pairs.specs.Taken.{is_taken}
 use Rattle.greedy.specs.Good.{Good, Becomes}
 use Rattle.pairs.specs.Keys.{key_in}
 use Rattle.best.specs.Longs.{LongestIn}
-use Rattle.best.specs.Picked.{Found}
-use Rattle.best.specs.Searched.{InRows, Searched, Relaxed}
+use Rattle.std.proofs.Common.{Option, Some, None}
+use Rattle.best.specs.declared.Pick.{Pick}
+use Rattle.best.specs.Searched.{Searched, Relaxed}
 use Rattle.greedy.proofs.Pair.{pair_joined}
 use Rattle.greedy.proofs.Level.{Under, viable_small, floors_held, floors_back, picked_none, picked_best}
 
@@ -69,29 +69,28 @@ module _ (n order D : ℕ) (weight : ℕ → ℕ → ℕ) (w : ℕ) where
         }
 
     module _ (joins : ℕ) (far₀ parent₀ tree₀ far parent tree low₀ : List ℕ) (J : Joins joins far₀ parent₀ tree₀ far parent tree low₀) where
-      module _ (long : List ℕ) (longs : LongestIn n far tree long) (low : List ℕ) (k u v : ℕ)
-          (S : Searched n (λ x y. is_taken (weight x y) w (get_or tree x 0) (get_or tree y 0) (get_or far x 0) (get_or far y 0) D) (key_in order far long) n low₀ low k u v) where
+      module _ (long : List ℕ) (longs : LongestIn n far tree long) (low : List ℕ) where
+        -- What a search of all rows has found, by the arrays.
+        abbrev pub Sought : Option Pick → Type 0
+        Sought found =
+            Searched n (λ x y. is_taken (weight x y) w (get_or tree x 0) (get_or tree y 0) (get_or far x 0) (get_or far y 0) D) (key_in order far long) n low₀ low found
+
         -- No pair is found: all are taken.
-        pub joins_none : k ≡ 65536 → Becomes n D level far₀ parent₀ tree₀ far parent tree
-        joins_none e =
+        pub joins_none : Sought None → Becomes n D level far₀ parent₀ tree₀ far parent tree
+        joins_none S =
             record {
               whole = J.whole;
               good = λ F G.
                   let R = J.from F G in
                   let leads = S.ahead (floors_held n order D weight w small bound far parent tree long longs R.trees R.good low₀ R.under) in
-                  let none = picked_none n order D weight w small bound far parent tree long longs R.trees R.good u v (rw e at leads) in
+                  let none = picked_none n order D weight w small bound far parent tree long longs R.trees R.good leads in
                   rw (sym R.same ∙ level-ends n (rest order n) D weight w R.trees none) R.good;
             }
 
-        -- Else there is one.
-        pub joins_found : ¬ (k ≡ 65536)
-            → Found n (λ x y. is_taken (weight x y) w (get_or tree x 0) (get_or tree y 0) (get_or far x 0) (get_or far y 0) D) (key_in order far long) (InRows n) k u v
-        joins_found some = elim S.found [ inl e ↦ absurd (some e) | inr f ↦ f ]
-
-        -- It is joined, and the floors are relaxed.
-        pub joins_more : ¬ (k ≡ 65536) → (far' parent' tree' new : List ℕ) → Joined n u v far parent tree far' parent' tree' → Relaxed order n low new
-            → Joins (joins + 1) far₀ parent₀ tree₀ far' parent' tree' new
-        joins_more some far' parent' tree' new step relaxed =
+        -- The pair found is joined, and the floors are relaxed.
+        pub joins_more : (p : Pick) → Sought (Some p) → (far' parent' tree' new : List ℕ) → Joined n p.u p.v far parent tree far' parent' tree'
+            → Relaxed order n low new → Joins (joins + 1) far₀ parent₀ tree₀ far' parent' tree' new
+        joins_more p S far' parent' tree' new step relaxed =
             record {
               whole = step.whole;
               from = λ F G.
@@ -99,13 +98,13 @@ module _ (n order D : ℕ) (weight : ℕ → ℕ → ℕ) (w : ℕ) where
                   let H = R.trees in
                   let g = R.good.grown in
                   let held = floors_held n order D weight w small bound far parent tree long longs H R.good low₀ R.under in
-                  let B = picked_best n order D weight w small bound far parent tree long longs H R.good k u v (joins_found some) (S.ahead held) in
+                  let B = picked_best n order D weight w small bound far parent tree long longs H R.good p S.one (S.ahead held) in
                   record {
-                    trees = joined H u v;
-                    good = pair_joined n D u v B.weighs.rising B.weighs.inside H far parent tree R.good B.viable far' parent' tree' step;
-                    same = sym (level_joins n (rest order n) D weight w H (u, v) B) ∙ R.same;
-                    fewer = omega (arith, R.fewer, tree_count_joined n H g.inside g.named u v B.viable.apart B.weighs.inside);
-                    under = relaxed_under H u v B.viable low new relaxed (λ q W able. (
+                    trees = joined H p.u p.v;
+                    good = pair_joined n D p.u p.v B.weighs.rising B.weighs.inside H far parent tree R.good B.viable far' parent' tree' step;
+                    same = sym (level_joins n (rest order n) D weight w H (p.u, p.v) B) ∙ R.same;
+                    fewer = omega (arith, R.fewer, tree_count_joined n H g.inside g.named p.u p.v B.viable.apart B.weighs.inside);
+                    under = relaxed_under H p.u p.v B.viable low new relaxed (λ q W able. (
                       floors_back n order D weight w small bound far parent tree long longs H R.good low (S.floors held) q W able,
                       viable_small n order D weight w small bound far parent tree long longs H R.good q W able,
                     ));

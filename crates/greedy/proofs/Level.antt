@@ -13,6 +13,8 @@ use Rattle.pairs.specs.Taken.{is_taken}
 use Rattle.greedy.specs.Good.{Good}
 use Rattle.pairs.specs.Keys.{key_in}
 use Rattle.best.specs.Longs.{LongestIn}
+use Rattle.std.proofs.Common.{Some, None}
+use Rattle.best.specs.declared.Pick.{Pick}
 use Rattle.best.specs.Picked.{Found, Leads}
 use Rattle.best.specs.Searched.{InRows, Floors}
 use Rattle.pairs.proofs.Keys.{key_rest, fits_small}
@@ -77,20 +79,14 @@ module _ (n order D : ℕ) (weight : ℕ → ℕ → ℕ) (w : ℕ) where
     floors_back low B q W able = omega (arith, B q.0 q.1 W.rising W.inside (viable_fits q W able), viable_key q W able)
 
     -- Where none is found none can be added.
-    pub picked_none : (u v : ℕ) → Leads n fits key (InRows n) 65536 u v → NoneViable n (rest order n) D weight w F
-    picked_none u v L q W able =
-        let less = viable_small q W able in
-        let e = viable_key q W able in
-        elim (L q.0 q.1 W.rising W.inside (omega (arith, W.rising, W.inside)) (viable_fits q W able)) [
-          | inl h ↦ omega (arith, h, e, less)
-          | inr h ↦ omega (arith, h.0, e, less)
-        ]
+    pub picked_none : Leads n fits key (InRows n) None → NoneViable n (rest order n) D weight w F
+    picked_none L q W able = L q.0 q.1 W.rising W.inside (omega (arith, W.rising, W.inside)) (viable_fits q W able)
 
     -- The pair found is the best that can be added.
-    pub picked_best : (k u v : ℕ) → Found n fits key (InRows n) k u v → Leads n fits key (InRows n) k u v → Best n (rest order n) D weight w F (u, v)
-    picked_best k u v f L =
-        let (weighs, able) = fits_viable u v f.rising f.inside f.fit in
-        let own = f.keyed ∙ viable_key (u, v) weighs able in
+    pub picked_best : (p : Pick) → Found n fits key (InRows n) p → Leads n fits key (InRows n) (Some p) → Best n (rest order n) D weight w F (p.u, p.v)
+    picked_best p f L =
+        let (weighs, able) = fits_viable p.u p.v f.rising f.inside f.fit in
+        let own = f.keyed ∙ viable_key (p.u, p.v) weighs able in
         record {
           weighs = weighs;
           viable = able;

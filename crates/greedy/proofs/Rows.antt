@@ -18,7 +18,8 @@ use Rattle.pairs.specs.Taken.{is_taken}
 use Rattle.pairs.proofs.Taken.{taken_full}
 use Rattle.greedy.specs.Good.{Good, Becomes}
 use Rattle.greedy.proofs.Becomes.{becomes_same, becomes_then}
-use Rattle.weights.proofs.Next.{Passed}
+use Rattle.std.proofs.Common.{Option, Some, None, IfSome, unwrap_or}
+use Rattle.weights.specs.Next.{Passed, Next}
 use Rattle.greedy.proofs.Pair.{pair_dropped, pair_added}
 
 -- A row begins after its first state.
@@ -87,6 +88,12 @@ module _ (n D : ℕ) (weight : ℕ → ℕ → ℕ) (w u : ℕ) (far₀ parent�
       → Becomes n D (λ F. row n D weight w u F v') far₀ parent₀ tree₀ far parent tree
   row_passed v v' l P B = record { whole = B.whole; good = λ F G. rw (row_passes n D weight w u F v v' l P) (B.good F G) }
 
+  -- So they are up to the next pair of the weight, or to the end of the row where there is none.
+  pub row_sought : (from : ℕ) (r : Option ℕ) → from ≤ n → Next n (weight u) from w r → Becomes n D (λ F. row n D weight w u F from) far₀ parent₀ tree₀ far parent tree
+      → Becomes n D (λ F. row n D weight w u F (unwrap_or r n)) far₀ parent₀ tree₀ far parent tree
+  row_sought from None l P B = row_passed from n l P B
+  row_sought from (Some v) l P B = row_passed from v P.0 P.3 B
+
   -- After all pairs of a row one row more is taken.
   pub rows_more : (far' parent' tree' : List ℕ) → Becomes n D (λ F. rows n D weight w F u) far₀ parent₀ tree₀ far parent tree
       → Becomes n D (λ F. row n D weight w u F n) far parent tree far' parent' tree'
@@ -94,6 +101,16 @@ module _ (n D : ℕ) (weight : ℕ → ℕ → ℕ) (w u : ℕ) (far₀ parent�
   rows_more far' parent' tree' A B =
       rw (add-one u)
       (becomes_then n D (λ F. rows n D weight w F u) (λ F. row n D weight w u F n) far₀ parent₀ tree₀ far parent tree far' parent' tree' A B)
+
+-- The next place that holds a number is behind the places passed.
+pub next_behind : (n : ℕ) (line : ℕ → ℕ) (from w : ℕ) (r : Option ℕ) → from ≤ n → Next n line from w r → from ≤ unwrap_or r n
+next_behind n line from w None l P = l
+next_behind n line from w (Some v) l P = P.0
+
+-- What is known of it, where there is one.
+pub next_place : (n : ℕ) (line : ℕ → ℕ) (u from w : ℕ) (r : Option ℕ) → u < from → Next n line from w r → IfSome r (λ v. (u < v) × (v < n) × (line v ≡ w))
+next_place n line u from w None l P = tt
+next_place n line u from w (Some v) l P = (omega (arith, P.0), P.1, P.2)
 
 -- All rows are what the pairs of the weight make in order 0.
 pub rows_end : (n D : ℕ) (weight : ℕ → ℕ → ℕ) (w : ℕ) (far₀ parent₀ tree₀ far parent tree : List ℕ)

@@ -10,7 +10,7 @@ use Rattle.paper.specs.Image.{states, classes, records_at_of, entries_part_of, i
 use Rattle.facts.proofs.ImageFacts.{AcceptedImage, image_few_labels}
 use Rattle.image.specs.Forms.{step_of, stored_in_of}
 use Rattle.image.specs.Laid.{Laid, Row}
-use Rattle.image.specs.declared.Step.{Step}
+use Rattle.image.specs.Forms.{Step}
 use Rattle.image.proofs.Parts.{part_reading}
 use Rattle.image.proofs.Reading.{reading_row, reading_step}
 

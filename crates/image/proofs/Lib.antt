@@ -8,3 +8,4 @@ pub mod Accepted
 pub mod Way
 pub mod Split
 pub mod Passed
+pub mod Ready

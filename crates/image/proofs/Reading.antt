@@ -13,7 +13,7 @@ use Rattle.paper.proofs.Below.{first_of_same}
 use Rattle.facts.proofs.ViewFacts.{Sound}
 use Rattle.image.specs.Forms.{step_of, stored_in_of}
 use Rattle.image.specs.Laid.{Row}
-use Rattle.image.specs.declared.Step.{Step}
+use Rattle.image.specs.Forms.{Step}
 
 -- The part has four bytes for each entry of the state, its class and its next state.
 pub record Reading (v : View) (s : ℕ) (part : List ℕ) : Type 0 where

@@ -14,10 +14,9 @@ use Rattle.paper.proofs.Look.{serves_own, serves_on, serves_find}
 use Rattle.facts.proofs.ViewFacts.{Sound}
 use Rattle.facts.proofs.Finds.{root_stores}
 use Rattle.image.specs.Forms.{default_of, step_of}
-use Rattle.image.specs.declared.Fallback.{Fallback}
-use Rattle.image.specs.declared.Fallback.TheVariants.{Root, FallsTo}
-use Rattle.image.specs.declared.Step.{Step}
-use Rattle.image.specs.declared.Step.TheVariants.{Stored, Nothing}
+use Rattle.image.specs.Forms.{Fallback}
+use Rattle.std.specs.Prelude.{None, Some, unwrap_or}
+use Rattle.image.specs.Forms.{Step}
 use Rattle.image.proofs.Cases.{step_stored, step_nothing}
 
 -- The steps that a state's chain has left, 0 where it has no end.
@@ -84,18 +83,18 @@ module _ (v : View) (A : Sound v) (few_states : v.states ≤ 512) where
             nearer = omega arith;
           }
 
-      -- Nothing is stored at a state with a default only: a root stores every class.
+      -- None is stored at a state with a default only: a root stores every class.
       no_root : stored v s class ≡ none → ¬ (v.default s ≡ none)
       no_root e r = let (t, w) = root_stores v A s class W.inside hc r in none≢some (stored v s class) t e w
 
       module _ (step : Step) (step_is : step ≡ step_of (stored v s class)) where
         -- A step over the state's entries that answers a target has found it.
-        pub way_answered : (t : ℕ) → step ≡ Stored t → (t ≡ (look v state class).target) × (hops ≡ (look v state class).hops) × (s ≡ (look v state class).server)
+        pub way_answered : (t : ℕ) → step ≡ Some t → (t ≡ (look v state class).target) × (hops ≡ (look v state class).hops) × (s ≡ (look v state class).server)
         way_answered t q =
             let found = way_found t (step_stored (stored v s class) step t step_is q) in
             (sym (ap (λ (f : Found). f.target) found), sym (ap (λ (f : Found). f.hops) found), sym (ap (λ (f : Found). f.server) found))
 
         -- One that answers nothing sends it on to where the state falls, and that is no root.
-        pub way_sent : step ≡ Nothing → (f : Fallback) → v.default s ≡ default_of f → (d : ℕ) → (f ≡ FallsTo d) ⊎ (f ≡ Root) → Onward v state class s hops d
-        way_sent q f e d (inl x) = way_on (step_nothing (stored v s class) step step_is q) d (e ∙ ap default_of x)
-        way_sent q f e d (inr x) = absurd (no_root (step_nothing (stored v s class) step step_is q) (e ∙ ap default_of x))
+        pub way_sent : step ≡ None → (f : Fallback) → v.default s ≡ default_of f → (d other : ℕ) → d ≡ unwrap_or f other → Onward v state class s hops d
+        way_sent q None e d other h = absurd (no_root (step_nothing (stored v s class) step step_is q) e)
+        way_sent q (Some x) e d other h = way_on (step_nothing (stored v s class) step step_is q) d (e ∙ ap {B = Option ℕ} some (sym h))

@@ -4,28 +4,20 @@
 ghost use Rattle.std.specs.Prelude.{◌≡◌, ◌+◌, ◌*◌, ◌/◌, ◌≤◌, ◌<◌, length};
 ghost use Rattle.paper.specs.View.{look};
 ghost use Rattle.paper.specs.Image.{states, classes, entries, records_at_of, entries_part_of, image_view};
-ghost use Rattle.image.specs.Forms.{record_at_of, number_of, step_of, stored_in_of};
-ghost use Rattle.image.specs.Laid.{Laid, Begins, Rising, Near, BelowAt, Row, Ready};
+ghost use Rattle.image.specs.Forms.{record_at_of, step_of, stored_in_of};
+ghost use Rattle.image.specs.Laid.{Laid, Begins, Rising, Under, Near, Row, Ready};
 
-// Where a state falls: it is a root, or it falls to a state.
-#[derive(Drop)]
-pub enum Fallback {
-    Root,
-    FallsTo(u16),
-}
+mod judged;
+mod lookup;
 
-// A record: a default state, or none, with a count of entries.
-#[derive(Drop)]
+pub use judged::Image;
+pub use lookup::Lookup;
+
+// A record: the state that it falls to, none for a root, with a count of entries.
+#[derive(Clone, Copy, PartialEq, Eq, Debug)]
 pub struct Record {
-    pub fallback: Fallback,
+    pub fallback: Option<u16>,
     pub count: u16,
-}
-
-// What one step of look-up finds: a stored target, or nothing stored here.
-#[derive(Drop)]
-pub enum Step {
-    Stored(u16),
-    Nothing,
 }
 
 // The record at a place.
@@ -35,27 +27,12 @@ pub fn record_at(image: &[u8], at: usize) -> Record
 {
     let default = words::get16(image, at);
     let count = words::get16(image, at + 2);
-    if default == 65535 {
-        Record {
-            fallback: Fallback::Root,
-            count: count,
-        }
+    let fallback = if default == 65535 {
+        None
     } else {
-        Record {
-            fallback: Fallback::FallsTo(default),
-            count: count,
-        }
-    }
-}
-
-// The number that stands in an image for where a state falls.
-pub fn number(f: Fallback) -> u16
-    ensures { result ≡ number_of f }
-{
-    match f {
-        Fallback::Root => 65535,
-        Fallback::FallsTo(s) => s,
-    }
+        Some(default)
+    };
+    Record { fallback, count }
 }
 
 // Where the records begin: 4m + 12 bytes, and 4n before them, from the image's end.
@@ -74,11 +51,9 @@ pub fn begins_of(image: &[u8], n: usize, m: usize) -> [u32; 513]
     let records = records_at(image, n, m);
     let mut at = records + 4 * n;
     let mut begins = [0u32; 513];
-    let mut s = 0;
-    while s < n {
+    for s in 0..n {
         begins[s] = at as u32;
         at += 4 * (words::get16(image, records + 4 * s + 2) as usize);
-        s += 1;
     }
     begins[n] = at as u32;
     begins
@@ -95,6 +70,7 @@ pub fn entries_of<'a>(image: &'a [u8], begins: &[u32; 513], s: usize) -> &'a [u8
 }
 
 // Halves a long row to a place near the class: every entry before it is below the class, and none eight or more places behind it is.
+// The classes stand four bytes apart in lent bytes, so there is no list of them that the library's search could halve.
 fn near(row: &[u8], count: usize, class: u16) -> usize
     requires { Rising row.now count }
     ensures { Near row.now count class result }
@@ -112,43 +88,41 @@ fn near(row: &[u8], count: usize, class: u16) -> usize
     low
 }
 
-// The place where the search of a row begins, in bytes: a long row is halved to near the class first.
+// The entry at which the search of a row begins: a long row is halved to near the class first.
 fn begin(row: &[u8], class: u16) -> usize
     requires { Rising row.now (length row.now / 4) }
-    ensures { BelowAt row.now class result }
+    ensures { Under row.now (length row.now / 4) class result }
 {
     if row.len() <= 32 {
         return 0;
     }
-    4 * near(row, row.len() / 4, class)
+    near(row, row.len() / 4, class)
 }
 
 // One step over a row whose classes rise: it ends at the first that is not below the class.
-fn search(row: &[u8], class: u16) -> Step
+fn search(row: &[u8], class: u16) -> Option<u16>
     requires { Rising row.now (length row.now / 4) }
     ensures { result ≡ step_of (stored_in_of row.now class) }
 {
-    let mut at = begin(row, class);
-    while at < row.len() {
-        let c = words::get16(row, at);
+    for j in begin(row, class)..row.len() / 4 {
+        let c = words::get16(row, 4 * j);
         if class <= c {
             if class == c {
-                return Step::Stored(words::get16(row, at + 2));
+                return Some(words::get16(row, 4 * j + 2));
             }
-            return Step::Nothing;
+            return None;
         }
-        at += 4;
     }
-    Step::Nothing
+    None
 }
 
 // One step of look-up in a state's entries. A state that stores all k classes stores class c at place c.
-pub fn stored_in(row: &[u8], k: usize, class: u16) -> Step
+pub fn stored_in(row: &[u8], k: usize, class: u16) -> Option<u16>
     requires { Row row.now k × (k ≤ 256) × (class < k) }
     ensures { result ≡ step_of (stored_in_of row.now class) }
 {
     if row.len() == 4 * k {
-        return Step::Stored(words::get16(row, 4 * (class as usize) + 2));
+        return Some(words::get16(row, 4 * (class as usize) + 2));
     }
     search(row, class)
 }
@@ -178,24 +152,16 @@ pub fn look_up(
     let mut hops: u32 = 0;
     loop {
         let row = entries_of(image, begins, s as usize);
-        match stored_in(row, k, class) {
-            Step::Stored(t) => {
-                return Found {
-                    target: t,
-                    hops: hops,
-                    server: s,
-                };
-            }
-            Step::Nothing => {
-                let record = record_at(image, records + 4 * (s as usize));
-                let fallback = record.fallback;
-                s = match fallback {
-                    Fallback::FallsTo(d) => d,
-                    // Never reached, as a root stores every class; and the number of no state costs no test.
-                    Fallback::Root => 65535,
-                };
-                hops += 1;
-            }
+        if let Some(target) = stored_in(row, k, class) {
+            return Found {
+                target,
+                hops,
+                server: s,
+            };
         }
+        let record = record_at(image, records + 4 * (s as usize));
+        // A root stores every class, so its 65535 is never reached.
+        s = record.fallback.unwrap_or(65535);
+        hops += 1;
     }
 }

@@ -12,6 +12,7 @@ pub struct Forest {
     pub d: [u16; 512],
     pub parent: [u16; 512],
     pub tree: [u16; 512],
+    ghost low: { Low parent },
 }
 
 // The parents with u's tree turned to u: the path of at most `most` steps from u to the old root is turned round.
@@ -22,8 +23,7 @@ pub fn turned_to(old: [u16; 512], u: usize, most: u16) -> [u16; 512]
     let mut parent = old;
     let mut back = u;
     let mut at = u;
-    let mut k: u16 = 0;
-    while k < most {
+    for k in 0..most {
         let next = parent[at] as usize;
         parent[at] = back as u16;
         if next == at {
@@ -31,7 +31,6 @@ pub fn turned_to(old: [u16; 512], u: usize, most: u16) -> [u16; 512]
         }
         back = at;
         at = next;
-        k += 1;
     }
     parent[at] = back as u16;
     parent
@@ -43,15 +42,13 @@ fn steps_to(parent: &[u16; 512], x: usize, r: usize, most: u16) -> u16
     ensures { (result ≤ most) × Climbed parent.now x r most result }
 {
     let mut at = x;
-    let mut k: u16 = 0;
-    while k < most {
+    for k in 0..most {
         if at == r {
             return k;
         }
         at = parent[at] as usize;
-        k += 1;
     }
-    k
+    most
 }
 
 // The larger of x's old distance and the way from x over the root r to a state `past` steps behind it.
@@ -60,7 +57,7 @@ fn farther(parent: &[u16; 512], old: u16, x: usize, r: usize, most: u16, past: u
     ensures { Farther parent.now old x r most past result }
 {
     let steps = steps_to(parent, x, r, most);
-    words::larger(old, steps + 1 + past)
+    old.max(steps + 1 + past)
 }
 
 // The longest distance renewed for every state of both trees, with the old ones of u and v.
@@ -82,15 +79,10 @@ fn renew(
     let dv = d[v];
     for x in 0..n {
         let t = tree[x];
-        let dx = d[x];
         if t == tu {
-            let e = farther(parent, dx, x, u, du, dv);
-            d[x] = e;
-        } else {
-            if t == tv {
-                let e = farther(parent, dx, x, v, dv, du);
-                d[x] = e;
-            }
+            d[x] = farther(parent, d[x], x, u, du, dv);
+        } else if t == tv {
+            d[x] = farther(parent, d[x], x, v, dv, du);
         }
     }
     d
@@ -112,21 +104,13 @@ fn renumber(t0: [u16; 512], n: usize, tu: u16, tv: u16) -> [u16; 512]
 
 // The trees of u and v joined by the pair.
 pub fn join(f: Forest, n: usize, u: usize, v: usize) -> Forest
-    requires { (n ≤ 512) × (u < n) × (v < n) × Low f.parent × (get_or f.d u 0 + get_or f.d v 0 < 65535) }
+    requires { (n ≤ 512) × (u < n) × (v < n) × (get_or f.d u 0 + get_or f.d v 0 < 65535) }
     ensures { Joined n u v f.d f.parent f.tree result.d result.parent result.tree }
 {
-    let d0 = f.d;
-    let p0 = f.parent;
-    let t0 = f.tree;
-    let du = d0[u];
-    let dv = d0[v];
-    let tu = t0[u];
-    let tv = t0[v];
-    let p1 = turned_to(p0, u, du);
-    let p2 = turned_to(p1, v, dv);
-    let d = renew(d0, &p2, &t0, n, u, v);
-    let tree = renumber(t0, n, tu, tv);
-    let mut parent = p2;
+    let once = turned_to(f.parent, u, f.d[u]);
+    let mut parent = turned_to(once, v, f.d[v]);
+    let d = renew(f.d, &parent, &f.tree, n, u, v);
+    let tree = renumber(f.tree, n, f.tree[u], f.tree[v]);
     parent[v] = u as u16;
     Forest { d, parent, tree }
 }

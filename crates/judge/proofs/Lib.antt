@@ -1,1 +1,1 @@
-pub mod Judged
+pub mod Grounds

@@ -1,38 +1,42 @@
 // Judges an image: 0, or the number of the first ground on which it is refused.
 #![tactic(auto)]
 
-ghost use Rattle.std.specs.Prelude.{◌≡◌, ◌||◌, ◌+◌, ◌-◌, ◌*◌, ◌%◌, ◌≤◌, ◌<◌, ◌^◌, length, take};
+ghost use Rattle.std.specs.Prelude.{◌≡◌, ◌||◌, ◌+◌, ◌-◌, ◌*◌, ◌%◌, ◌≤◌, ◌<◌, ◌^◌, length, take, IfOk};
 ghost use Rattle.paper.specs.Below.{differ, outside};
 ghost use Rattle.paper.specs.Words.{words, check_word_of};
 ghost use Rattle.paper.specs.Refusals.{first};
-ghost use Rattle.paper.specs.Labels.{edition_of, labels_behind};
+ghost use Rattle.paper.specs.Labels.{labels_behind};
 ghost use Rattle.paper.specs.Image.{distance_back, whole_length, check, image_length_of};
+ghost use Rattle.paper.specs.Operations.{judge_image_of};
 ghost use Rattle.paper.specs.Promises.{JudgesImage};
+ghost use Rattle.answers.specs.Numbers.{answer_of};
+ghost use Rattle.labels.specs.Editions.{edition_in};
 ghost use Rattle.image.specs.Grounds.{first_grounds_of};
+
+use answers::Refusal;
+use image::Image;
+use labels::{Edition, Labels};
 
 // Ground 2: n, k or m is out of range. All three are compared before anything is made of m.
 fn counts_bad(n: usize, k: usize, m: usize) -> bool
     ensures { result ≡ (outside 1 512 n || (outside 1 256 k || outside k (n * k) m)) }
 {
-    if table::counts_bad(n, k) {
-        return true;
-    }
-    if m < k {
-        return true;
-    }
-    n * k < m
+    table::counts_bad(n, k) || m < k || n * k < m
 }
 
 // Ground 3: the length is not the one that n, m and the labels give. An input that ends inside the counts of labels is shorter.
-fn length_bad(b: &[u8], n: usize, m: usize, word: u16) -> bool
-    requires { (n ≤ 512) × (m ≤ 131072) }
-    ensures { result ≡ differ (length b.now) (image_length_of n m (labels_behind b.now 268 n (edition_of word))) }
+fn length_bad(labels: &Labels, m: usize) -> bool
+    requires { (labels.now.at ≡ 268) × (labels.now.n ≤ 512) × (m ≤ 131072) }
+    ensures { result ≡ differ (length labels.now.bytes.now)
+        (image_length_of labels.now.n m (labels_behind labels.now.bytes.now 268 labels.now.n (edition_in labels.now.edition))) }
 {
-    if b.len() < 268 + 2 * n {
+    let n = labels.n;
+    let length = labels.bytes.len();
+    if length < 268 + 2 * n {
         return true;
     }
-    let behind = labels::behind(b, 268, n, word);
-    b.len() != 280 + 6 * n + 2 * behind + 4 * m
+    let behind = labels.behind();
+    length != 280 + 6 * n + 2 * behind + 4 * m
 }
 
 // Ground 4: the trailer's whole length or distance back is wrong.
@@ -40,10 +44,8 @@ pub fn trailer_bad(b: &[u8], m: usize) -> bool
     requires { (12 ≤ length b.now) × (m < 2 ^ 32) }
     ensures { result ≡ (differ (whole_length b.now) (length b.now) || differ (distance_back b.now) (4 * m + 12)) }
 {
-    if words::get32(b, b.len() - 8) as usize != b.len() {
-        return true;
-    }
-    words::get32(b, b.len() - 12) as usize != 4 * m + 12
+    words::get32(b, b.len() - 8) as usize != b.len()
+        || words::get32(b, b.len() - 12) as usize != 4 * m + 12
 }
 
 // Ground 5: the check word differs from that of all words before it.
@@ -55,66 +57,85 @@ pub fn check_bad(b: &[u8]) -> bool
     words::get16(b, end) != words::check_word(&b[0..end])
 }
 
-// Judges an image on its first grounds: 0, or the number of the first of the grounds 1 to 10 and 19 that applies.
-pub fn first_grounds(b: &[u8]) -> u32
-    ensures { result ≡ first (first_grounds_of b.now) }
+// Judges an image on its first grounds: the first of the grounds 1 to 10 and 19 that applies.
+pub fn first_grounds(b: &[u8]) -> Result<(), Refusal>
+    ensures { answer_of result ≡ first (first_grounds_of b.now) }
 {
     if b.len() < 24 {
-        return 1;
+        return Err(Refusal::TooShort);
     }
     let word = words::get16(b, 0);
+    let edition = Edition::of(word);
     let n = labels::states_of(word);
     let k = words::get16(b, 2) as usize;
     let start = words::get16(b, 4) as usize;
     let m = words::get32(b, 8) as usize;
     if counts_bad(n, k, m) {
-        return 2;
+        return Err(Refusal::Counts);
     }
-    if labels::counts_bad(b, 268, n, word) {
-        return 19;
+    let labels = Labels {
+        bytes: b,
+        at: 268,
+        n,
+        edition,
+    };
+    if labels.counts_bad() {
+        return Err(Refusal::Labels);
     }
-    if length_bad(b, n, m, word) {
-        return 3;
+    if length_bad(&labels, m) {
+        return Err(Refusal::Length);
     }
     if trailer_bad(b, m) {
-        return 4;
+        return Err(Refusal::Trailer);
     }
     if check_bad(b) {
-        return 5;
+        return Err(Refusal::CheckWord);
     }
     if n <= start {
-        return 6;
+        return Err(Refusal::StartState);
     }
     if table::classes_bad(b, 12, k) {
-        return 7;
+        return Err(Refusal::Classes);
     }
-    if labels::labels_bad(b, 268, n, word) {
-        return 19;
+    if labels.labels_bad() {
+        return Err(Refusal::Labels);
     }
     if contents::in_records::records_bad(b, n, k, m) {
-        return 8;
+        return Err(Refusal::Defaults);
     }
     let begins = image::begins_of(b, n, m);
     if contents::in_entries::entry_classes_bad(b, &begins, n, k) {
-        return 9;
+        return Err(Refusal::EntryClasses);
     }
     if contents::in_entries::next_bad(b, n, m) {
-        return 10;
+        return Err(Refusal::NextStates);
     }
-    0
+    Ok(())
 }
 
-// Judges an image: 0, or the number of the first ground, in the order 1, 2, 19, 3 to 7, 19, 8 to 13, that applies.
+// Judges an image: itself, or the first ground, in the order 1, 2, 19, 3 to 7, 19, 8 to 13, that applies.
+pub fn judged<'a>(bytes: &'a [u8]) -> Result<Image<'a>, Refusal>
+    ensures number { answer_of result ≡ judge_image_of bytes.now }
+    ensures same { IfOk result (λ image. image.bytes.now ≡ bytes.now) }
+{
+    first_grounds(bytes)?;
+    let word = words::get16(bytes, 0);
+    let n = labels::states_of(word);
+    let k = words::get16(bytes, 2) as usize;
+    let m = words::get32(bytes, 8) as usize;
+    sweep::last_grounds(bytes, n, k, m)?;
+    Ok(Image {
+        bytes,
+        edition: Edition::of(word),
+        n,
+        k,
+        m,
+    })
+}
+
+// Judges an image: 0, or the number of the first ground that applies.
 pub fn judge_image(b: &[u8]) -> u32
     ensures { JudgesImage b.now result }
 {
-    let number = first_grounds(b);
-    if number != 0 {
-        return number;
-    }
-    let word = words::get16(b, 0);
-    let n = labels::states_of(word);
-    let k = words::get16(b, 2) as usize;
-    let m = words::get32(b, 8) as usize;
-    sweep::last_grounds(b, n, k, m)
+    answers::number(judged(b))
 }

@@ -1,3 +1,3 @@
 pub mod Own
-pub mod Judged
+pub mod Grounds
 pub mod Overlays

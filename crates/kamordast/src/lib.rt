@@ -8,7 +8,7 @@ use answers::{Built, Scanned};
 pub use apply::apply;
 pub use build::{compact, write};
 pub use expand::expand;
-pub use image::{Fallback, Record};
+pub use image::Record;
 pub use judge::judge_image;
 pub use judgepatch::judge_patch;
 pub use moves::{back, forward};

@@ -1,14 +1,9 @@
 -- The names of states as parts of a word list, how many strings end each, and the bytes of their labels.
-use Rattle.std.specs.Prelude.{List, ℕ, ◌+◌, ◌≤◌, ◌<◌, length, get_or}
+use Rattle.std.specs.Prelude.{List, ℕ, get_or}
 use Rattle.paper.specs.Below.{how_many_of}
 use Rattle.paper.specs.Words.{all16}
 use Rattle.paper.specs.Strings.{rules, string, ends, labels_ending}
 use Rattle.strings.proofs.Parts.{part}
-
--- The names of n states stand in the list, each from its place on.
-pub record Names (b from long : List ℕ) (n : ℕ) : Type 0 where
-  pub few : n ≤ 512
-  pub inside : (s : ℕ) → s < n → get_or from s 0 + get_or long s 0 ≤ length b
 
 -- The name of a state.
 abbrev pub name_at : List ℕ → List ℕ → List ℕ → ℕ → List ℕ

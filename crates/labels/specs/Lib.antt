@@ -1,2 +1,3 @@
+pub mod Editions
 pub mod Lists
 pub mod Tags

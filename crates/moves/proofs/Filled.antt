@@ -37,20 +37,19 @@ unfolding head bytes16
 head_put b r₀ r₁ r₂ word h e₁ e₂ = placed-behind r₀ r₁ r₂ (bytes16 word) (take 266 (drop 2 b)) 0 2 refl (omega arith) e₁ e₂
 
 -- What is copied behind the labels, the trailer and the check word.
-pub rest_put : (b r₀ r₁ r₂ r₃ : List ℕ) (n m from held worst check : ℕ) → image_length_of n m held ≤ length r₀ → from + (4 * n + 4 * m) ≤ length b → worst ≡ image.worst b
+pub rest_put : (b r₀ r₁ r₂ r₃ : List ℕ) (n m from held worst : ℕ) → image_length_of n m held ≤ length r₀ → from + (4 * n + 4 * m) ≤ length b → worst ≡ image.worst b
     → r₁ ≡ placed r₀ (268 + 2 * n + 2 * held) (take (4 * n + 4 * m) (drop from b))
     → r₂ ≡ placed r₁ (268 + 2 * n + 2 * held + (4 * n + 4 * m)) (trailer n m held worst)
-    → check ≡ check_word_of (words (take (268 + 2 * n + 2 * held + (4 * n + 4 * m) + 10) r₂))
-    → r₃ ≡ placed r₂ (268 + 2 * n + 2 * held + (4 * n + 4 * m) + 10) (bytes16 check)
+    → r₃ ≡ placed r₂ (268 + 2 * n + 2 * held + (4 * n + 4 * m) + 10) (bytes16 (check_word_of (words (take (268 + 2 * n + 2 * held + (4 * n + 4 * m) + 10) r₂))))
     → r₃ ≡ finished b n m from held r₀
 unfolding finished rows
-rest_put b r₀ r₁ r₂ r₃ n m from held worst check fits in_b W e₁ e₂ C e₃ =
+rest_put b r₀ r₁ r₂ r₃ n m from held worst fits in_b W e₁ e₂ e₃ =
     let at = 268 + 2 * n + 2 * held in
     let count = 4 * n + 4 * m in
     let a = take count (drop from b) in
     let wide : length a ≡ count = length-take-le count (drop from b) (omega (arith, length-drop from b)) in
     let p = placed-behind r₀ r₁ r₂ a (trailer n m held worst) at (at + count) (omega arith) (omega arith) e₁ e₂ in
-    e₃ ∙ rw C (ap (λ (r : List ℕ). placed r (at + count + 10) (bytes16 (check_word_of (words (take (at + count + 10) r))))) (p ∙ ap (λ (w : ℕ). placed r₀ at (a ++ trailer n m held w)) W))
+    e₃ ∙ (ap (λ (r : List ℕ). placed r (at + count + 10) (bytes16 (check_word_of (words (take (at + count + 10) r))))) (p ∙ ap (λ (w : ℕ). placed r₀ at (a ++ trailer n m held w)) W))
 
 module _ (b : List ℕ) (B : Bytes b) (A : AcceptedImage b) where
   -- The view.

@@ -1,3 +1,4 @@
 pub mod Filled
 pub mod Verdict
 pub mod Left
+pub mod Known

@@ -3,19 +3,17 @@ use mathlib.Core.Path.{◌≡◌, refl, sym, ap, ap₂, ◌∙◌}
 use mathlib.Core.Bool.{◌&&◌}
 use mathlib.Core.List.{List, ◌∷◌, []}
 use Prim.Native.Nat.{ℕ, zero, suc, ◌+◌, ◌*◌, ◌≤◌, ◌<◌}
-use native.Mathlib.Decide.{dec_lt}
 use native.Mathlib.Omega.{arith}
 use lib.ListN.{length, get_or}
 use Rattle.paper.specs.Below.{same}
 use Rattle.paper.specs.Words.{number16}
-use Rattle.paper.specs.Labels.{Edition, one, two, edition_of, labels_from, labels_behind}
+use Rattle.paper.specs.Labels.{Edition, one, two}
 use Rattle.paper.specs.Results.{label_number_of}
-use Rattle.paper.specs.Table.{states, labels}
+use Rattle.paper.specs.Table.{edition, states, labels}
 use Rattle.paper.specs.FallBack.{levels}
 use Rattle.paper.specs.Reduce.{reached}
 use Rattle.paper.proofs.Below.{and_true, bool_false, each_same}
 use Rattle.paper.proofs.Lists.{length-list, get_or-list}
-use Rattle.paper.proofs.Editions.{first_edition, second_edition}
 use Rattle.facts.proofs.TableFacts.{AcceptedTable}
 use Rattle.trips.proofs.Labels.{label_number}
 use Rattle.labels.specs.Tags.{tag_of, numbers_from, tagged, Firsts}
@@ -36,28 +34,28 @@ tags_same two b from other tag mark q =
 pub tags_less : (t : List ℕ) (x y : ℕ) → number16 t (262 + 2 * x) < number16 t (262 + 2 * y) → Before (numbers t x) (numbers t y)
 tags_less t x y l = (0, λ i h. absurd (omega arith), l)
 
-module _ (t firsts : List ℕ) (word : ℕ) (W : word ≡ number16 t 0) (F : Firsts t 262 (states t) (edition_of word) firsts) where
+module _ (t firsts : List ℕ) (F : Firsts t 262 (states t) (edition t) firsts) where
   -- The labels of a state by its tag.
-  by_tag : (s : ℕ) → s < states t → labels t s ≡ tagged (edition_of word) t (262 + 2 * get_or firsts s 0) (tag_of t 262 s)
+  by_tag : (s : ℕ) → s < states t → labels t s ≡ tagged (edition t) t (262 + 2 * get_or firsts s 0) (tag_of t 262 s)
   unfolding labels
-  by_tag s h = ap (λ (w : ℕ). labels_from t 262 (states t) (edition_of w) s) (sym W) ∙ labels-tagged t 262 (states t) (edition_of word) firsts F s h
+  by_tag s h = labels-tagged t 262 (states t) (edition t) firsts F s h
 
   -- In edition 2 they are the run that the array says.
-  pub labels-run : (s tag : ℕ) → s < states t → 32768 ≤ word → tag ≡ number16 t (262 + 2 * s) → labels t s ≡ numbers_from t (262 + 2 * get_or firsts s 0) tag
-  labels-run s tag hs h e = by_tag s hs ∙ rw (second_edition word h, ← e) refl
+  pub labels-run : (s tag : ℕ) → s < states t → edition t ≡ two → tag ≡ number16 t (262 + 2 * s) → labels t s ≡ numbers_from t (262 + 2 * get_or firsts s 0) tag
+  labels-run s tag hs h e = by_tag s hs ∙ rw (h, ← e) refl
 
   module _ (x y : ℕ) (hx : x < states t) (hy : y < states t) where
     -- States with the same labels have the same numbers.
     pub numbers_same : labels t x ≡ labels t y → Same (numbers t x) (numbers t y)
     numbers_same e zero =
-        tags_same (edition_of word) t (262 + 2 * get_or firsts x 0) (262 + 2 * get_or firsts y 0) (tag_of t 262 x) (tag_of t 262 y) (sym (by_tag x hx) ∙ e ∙ by_tag y hy)
+        tags_same (edition t) t (262 + 2 * get_or firsts x 0) (262 + 2 * get_or firsts y 0) (tag_of t 262 x) (tag_of t 262 y) (sym (by_tag x hx) ∙ e ∙ by_tag y hy)
     numbers_same e (suc i) = ap (λ (l : List ℕ). get_or l i 0) e
 
     -- In edition 1 the tag is the label.
-    pub tags_agree : number16 t (262 + 2 * x) ≡ number16 t (262 + 2 * y) → word < 32768 → labels t x ≡ labels t y
-    tags_agree e h = by_tag x hx ∙ rw (first_edition word h, e) refl ∙ sym (by_tag y hy)
+    pub tags_agree : number16 t (262 + 2 * x) ≡ number16 t (262 + 2 * y) → edition t ≡ one → labels t x ≡ labels t y
+    tags_agree e h = by_tag x hx ∙ rw (h, e) refl ∙ sym (by_tag y hy)
 
-    module _ (tag : ℕ) (ex : tag ≡ number16 t (262 + 2 * x)) (ey : tag ≡ number16 t (262 + 2 * y)) (h : 32768 ≤ word) where
+    module _ (tag : ℕ) (ex : tag ≡ number16 t (262 + 2 * x)) (ey : tag ≡ number16 t (262 + 2 * y)) (h : edition t ≡ two) where
       -- The numbers of the runs of both.
       abbrev f : ℕ → ℕ
       f j = number16 t (262 + 2 * get_or firsts x 0 + 2 * j)
@@ -89,13 +87,11 @@ module _ (t firsts : List ℕ) (word : ℕ) (W : word ≡ number16 t 0) (F : Fir
 
     -- States with the same numbers have the same labels.
     pub labels_same : Same (numbers t x) (numbers t y) → labels t x ≡ labels t y
-    labels_same s = go (dec_lt word 32768)
+    labels_same s = go (edition t) refl
       where
-        go : Dec (word < 32768) → labels t x ≡ labels t y
-        go (yes l) = tags_agree (s 0) l
-        go (no l) =
-            let h : 32768 ≤ word = omega arith in
-            runs_agree (tag_of t 262 x) refl (s 0) h (λ j k. sym (of_x (tag_of t 262 x) refl (s 0) h j k) ∙ s (suc j) ∙ of_y (tag_of t 262 x) refl (s 0) h j k)
+        go : (e : Edition) → edition t ≡ e → labels t x ≡ labels t y
+        go one h = tags_agree (s 0) h
+        go two h = runs_agree (tag_of t 262 x) refl (s 0) h (λ j k. sym (of_x (tag_of t 262 x) refl (s 0) h j k) ∙ s (suc j) ∙ of_y (tag_of t 262 x) refl (s 0) h j k)
 
   -- The first reached state with the numbers of a reached state is its name.
   pub first_name : AcceptedTable t → (x r : ℕ) → x < states t → Reached t x → First (numbers t) (Reached t) x r → r ≡ first_name_of t x
@@ -107,7 +103,6 @@ module _ (t firsts : List ℕ) (word : ℕ) (W : word ≡ number16 t 0) (F : Fir
       (ap₂ ◌&&◌ F.counts (eq_same (labels t x) (labels t r) (labels_same x r hx (omega (arith, F.below)) F.same)))
 
 -- In edition 2 the labels of a state stand in the table.
-pub run_inside : (t firsts : List ℕ) (word s : ℕ) → AcceptedTable t → word ≡ number16 t 0 → Firsts t 262 (states t) (edition_of word) firsts → s < states t → 32768 ≤ word
+pub run_inside : (t firsts : List ℕ) (s : ℕ) → AcceptedTable t → Firsts t 262 (states t) (edition t) firsts → s < states t → edition t ≡ two
     → 262 + 2 * get_or firsts s 0 + 2 * number16 t (262 + 2 * s) ≤ length t
-run_inside t firsts word s A W F hs h =
-    tagged_in t 262 (states t) (edition_of word) firsts F s hs (second_edition word h) (omega (arith, A.long, ap (λ (w : ℕ). labels_behind t 262 (states t) (edition_of w)) W))
+run_inside t firsts s A F hs h = tagged_in t 262 (states t) (edition t) firsts F s hs h (omega (arith, A.long))

@@ -1,4 +1,4 @@
 pub mod Ordered
 pub mod Labels
 pub mod Heads
-pub mod PutIn
+pub mod Names

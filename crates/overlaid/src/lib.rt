@@ -2,19 +2,23 @@
 // needless and change depth and worst far away. The sweep is the image's, two classes at a time; only where the entries of a state wait is chosen for each state.
 #![tactic(auto)]
 
-ghost use Rattle.std.specs.Prelude.{◌≡◌, true, false, ℕ, ◌≤◌, ◌<◌, length};
+ghost use Rattle.std.specs.Prelude.{◌≡◌, ℕ, [], ◌∷◌, ◌≤◌, ◌<◌, length, IfOk};
 ghost use Rattle.paper.specs.Below.{any};
 ghost use Rattle.paper.specs.Refusals.{first};
 ghost use Rattle.paper.specs.View.{endless, depth_of, worst_hops, any_entry, same_as_default};
 ghost use Rattle.paper.specs.Image.{states, class_of};
 ghost use Rattle.paper.specs.Patch.{patched_view};
 ghost use Rattle.chains.specs.Sweeps.{Falls};
-ghost use Rattle.abreast.specs.Turned.{Long};
-ghost use Rattle.abreast.specs.Keeps.{Fits, Ordered, Above, StandsIn, Bottom, Across};
+ghost use Rattle.answers.specs.Numbers.{answer_of};
+ghost use Rattle.abreast.specs.Keeps.{Ordered};
 ghost use Rattle.patch.specs.Listed.{Slots};
 ghost use Rattle.patch.specs.Overlay.{Overlay};
 ghost use Rattle.abreast.specs.Opened.{Opened};
 ghost use Rattle.overlaid.specs.Chosen.{chosen, bytes_of, last_grounds_of};
+
+use abreast::Entries;
+use answers::Refusal;
+use chains::Order;
 
 // The bytes in which the entries of a state wait: the patch's where it lists the state, else the image's. One lifetime stands for both, here and in every function above.
 pub fn either<'a>(image: &'a [u8], x: &'a [u8], slot: u8) -> &'a [u8]
@@ -71,9 +75,8 @@ pub fn open_rows(
     for i in 0..p {
         let s = patch::state_at(x, i);
         let record = image::record_at(x, records + 4 * i);
-        let fallback = record.fallback;
         let count = record.count;
-        up[s] = abreast::opening::row_above(fallback);
+        up[s] = record.fallback.unwrap_or(512);
         place[s] = at as u32;
         left[s] = count;
         wait[s] = abreast::head_class(x, at as u32, count);
@@ -81,48 +84,27 @@ pub fn open_rows(
     }
 }
 
-// The two classes from `first` on for all states, each after its default. True where some entry is what its default's chain gives.
-fn two_classes<'a>(
-    image: &'a [u8],
-    x: &'a [u8],
-    slots: &[u8; 512],
-    n: usize,
-    first: usize,
-    order: &[u16; 512],
-    up: &[u16; 512],
-    place: &mut [u32; 512],
-    left: &mut [u16; 512],
-    wait: &mut [u16; 512],
-    to: &mut [u16; 1026],
-    hop: &mut [u16; 1026],
-) -> bool
-    requires { Fits (patched_view image.now x.now) n × Ordered (patched_view image.now x.now) n order.now × Above (patched_view image.now x.now) n up.now × (first ≤ 256)
-        × Slots x.now n slots.now × Long place.old left.old wait.old to.old hop.old × Bottom to.old hop.old
-        × ((s : ℕ) → s < n → StandsIn (patched_view image.now x.now) (bytes_of image.now x.now) first place.old left.old wait.old s) }
-    ensures { Long place.new left.new wait.new to.new hop.new
-        × (result ≡ true → any_entry (patched_view image.now x.now) (same_as_default (patched_view image.now x.now)) ≡ true)
-        × (result ≡ false → Across (patched_view image.now x.now) (bytes_of image.now x.now) n first place.new left.new wait.new to.new hop.new) }
-{
-    for i in 0..n {
-        let s = order[i] as usize;
-        let from = up[s] as usize;
-        let slot = slots[s];
-        let b = either(image, x, slot);
-        if abreast::turn(b, first, s, from, place, left, wait, to, hop) {
-            return true;
-        }
+// An image with a patch laid over it, with the slot of each state.
+#[derive(Clone, Copy)]
+pub struct Overlaid<'a> {
+    pub image: &'a [u8],
+    pub x: &'a [u8],
+    pub slots: &'a [u8; 512],
+    ghost slots_are: { Slots x.now (states image.now) slots.now },
+    ghost few: { states image.now ≤ 512 },
+}
+
+impl<'a> Entries for Overlaid<'a> {
+    ghost view = { λ e. patched_view e.image.now e.x.now };
+
+    ghost bytes = { λ e. bytes_of e.image.now e.x.now };
+
+    fn bytes_of(&self, s: usize) -> &[u8] {
+        either(self.image, self.x, self.slots[s])
     }
-    false
 }
 
-// Whether some entry is what its default's chain gives; if none is, the largest hops.
-#[derive(Drop)]
-struct Swept {
-    needless: bool,
-    worst: u16,
-}
-
-// 12 and the worst of 13, two classes at a time.
+// 12 and the worst of 13 of an image with a patch.
 fn sweep<'a>(
     image: &'a [u8],
     n: usize,
@@ -132,10 +114,10 @@ fn sweep<'a>(
     p: usize,
     q: usize,
     order: &[u16; 512],
-) -> Swept
+) -> Result<u16, Refusal>
     requires { Overlay image.now x.now n k m p q × Ordered (patched_view image.now x.now) n order.now }
-    ensures { (result.needless ≡ any_entry (patched_view image.now x.now) (same_as_default (patched_view image.now x.now)))
-        × (result.needless ≡ false → result.worst ≡ worst_hops (patched_view image.now x.now) (class_of image.now)) }
+    ensures needless { answer_of result ≡ first ((12, any_entry (patched_view image.now x.now) (same_as_default (patched_view image.now x.now))) ∷ []) }
+    ensures worst { IfOk result (λ far. far ≡ worst_hops (patched_view image.now x.now) (class_of image.now)) }
 {
     let mut up = [0u16; 512];
     let mut place = [0u32; 512];
@@ -145,31 +127,15 @@ fn sweep<'a>(
         image, n, k, m, x, p, q, &mut up, &mut place, &mut left, &mut wait,
     );
     let slots = patch::slots_of(x, p, q, n);
-    let mut to = [65535u16; 1026];
-    let mut hop = [0u16; 1026];
-    let mut most = 1024;
-    let mut first = 0;
-    while first < k {
-        if two_classes(
-            image, x, &slots, n, first, order, &up, &mut place, &mut left, &mut wait, &mut to,
-            &mut hop,
-        ) {
-            return Swept {
-                needless: true,
-                worst: 0,
-            };
-        }
-        most = words::largest(&hop, 2 * n, most);
-        first += 2;
-    }
-    let worst = most - 1024;
-    Swept {
-        needless: false,
-        worst,
-    }
+    let entries = Overlaid {
+        image,
+        x,
+        slots: &slots,
+    };
+    sweep::largest_hops(&entries, n, k, order, &up, &mut place, &mut left, &mut wait)
 }
 
-// 11: whether some chain has no end; if none has, the depth and the states each after its default.
+// 11: some chain has no end. Else the depth and the states each after its default.
 fn ordered(
     image: &[u8],
     n: usize,
@@ -178,10 +144,10 @@ fn ordered(
     x: &[u8],
     p: usize,
     q: usize,
-) -> chains::Order
+) -> Result<Order, Refusal>
     requires { Overlay image.now x.now n k m p q }
-    ensures { (any (states image.now) (endless (patched_view image.now x.now)) ≡ result.endless)
-        × (result.endless ≡ false → (depth_of (patched_view image.now x.now) ≡ result.depth) × Ordered (patched_view image.now x.now) n result.order) }
+    ensures endless { answer_of result ≡ first ((11, any (states image.now) (endless (patched_view image.now x.now))) ∷ []) }
+    ensures ordered { IfOk result (λ o. (depth_of (patched_view image.now x.now) ≡ o.depth) × Ordered (patched_view image.now x.now) n o.order) }
 {
     let def = defaults_of(image, n, k, m, x, p, q);
     chains::order_of(&def, n)
@@ -196,27 +162,20 @@ pub fn last_grounds<'a>(
     x: &'a [u8],
     p: usize,
     q: usize,
-) -> u32
+) -> Result<(), Refusal>
     requires { Overlay image.now x.now n k m p q }
-    ensures { result ≡ first (last_grounds_of image.now x.now) }
+    ensures { answer_of result ≡ first (last_grounds_of image.now x.now) }
 {
-    let chains = ordered(image, n, k, m, x, p, q);
-    if chains.endless {
-        return 11;
-    }
-    let swept = sweep(image, n, k, m, x, p, q, &chains.order);
-    if swept.needless {
-        return 12;
-    }
+    let chains = ordered(image, n, k, m, x, p, q)?;
+    let far = sweep(image, n, k, m, x, p, q, &chains.order)?;
     let deep = chains.depth;
-    let far = swept.worst;
     let depth = words::get16(x, 2);
     if depth != deep {
-        return 13;
+        return Err(Refusal::Costs);
     }
     let worst = words::get16(x, 4);
     if worst != far {
-        return 13;
+        return Err(Refusal::Costs);
     }
-    0
+    Ok(())
 }

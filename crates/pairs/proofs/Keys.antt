@@ -2,7 +2,7 @@
 use mathlib.Core.Path.{◌≡◌, refl, sym}
 use mathlib.Core.Bool.{true}
 use mathlib.Core.List.{List}
-use Prim.Native.Nat.{ℕ, zero, suc, ◌+◌, ◌-◌, ◌≤◌, ◌<◌, max}
+use Prim.Native.Nat.{ℕ, zero, suc, ◌+◌, ◌≤◌, ◌<◌}
 use native.Mathlib.Omega.{arith}
 use lib.ListN.{get_or}
 use Rattle.paper.specs.Forest.{Trees, d, longest, rest}
@@ -15,21 +15,6 @@ pub key_small : (order du dv lu lv : ℕ) → key_of order du dv lu lv ≤ du + 
 key_small zero du dv lu lv = omega arith
 key_small (suc zero) du dv lu lv = omega arith
 key_small (suc (suc order)) du dv lu lv = omega arith
-
--- In an order that is neither 0 nor 1 it is the growth.
-key_growth : (order du dv lu lv : ℕ) → ¬ (order ≡ 0) → ¬ (order ≡ 1) → key_of order du dv lu lv ≡ du + dv + 1 - max lu lv
-key_growth zero du dv lu lv n0 n1 = absurd (n0 refl)
-key_growth (suc zero) du dv lu lv n0 n1 = absurd (n1 refl)
-key_growth (suc (suc order)) du dv lu lv n0 n1 = refl
-
-module _ (order du dv lu lv : ℕ) (n0 : ¬ (order ≡ 0)) (n1 : ¬ (order ≡ 1)) (m : ℕ) (e : m ≡ max lu lv) where
-  -- Where the path over the pair is shorter than a longest path there is no growth.
-  pub key_none : du + dv + 1 < m → 0 ≡ key_of order du dv lu lv
-  key_none l = omega (arith, key_growth order du dv lu lv n0 n1, e, l)
-
-  -- Else it is what that path has more.
-  pub key_more : du + dv + 1 - m ≡ key_of order du dv lu lv
-  key_more = omega (arith, key_growth order du dv lu lv n0 n1, e)
 
 -- The key of the numbers that a pair has is what the order goes by.
 pub key_rest : (order n : ℕ) (F : Trees) (u v : ℕ) → key_of order (d n F u) (d n F v) (longest n F u) (longest n F v) ≡ rest order n F (u, v)

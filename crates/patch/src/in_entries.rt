@@ -10,13 +10,10 @@ ghost use Rattle.patch.specs.Shaped.{Counts, PatchBegins};
 fn row_next_bad(row: &[u8], n: usize) -> bool
     ensures { result ≡ any (length row.now / 4) (λ j. leb n (number16 row.now (4 * j + 2))) }
 {
-    let count = row.len() / 4;
-    let mut j = 0;
-    while j < count {
+    for j in 0..row.len() / 4 {
         if n <= words::get16(row, 4 * j + 2) as usize {
             return true;
         }
-        j += 1;
     }
     false
 }
@@ -26,12 +23,10 @@ pub fn entry_classes_bad(x: &[u8], begins: &[u32; 65], p: usize, q: usize, k: us
     requires { Counts x.now p q × PatchBegins x.now p begins.now }
     ensures { result ≡ any p (λ i. any (count x.now i) (class_wrong k (entries_part_of x.now i))) }
 {
-    let mut i = 0;
-    while i < p {
+    for i in 0..p {
         if contents::in_entries::row_bad(super::entries_of(x, begins, p, q, i), k) {
             return true;
         }
-        i += 1;
     }
     false
 }
@@ -41,12 +36,10 @@ pub fn next_bad(x: &[u8], begins: &[u32; 65], p: usize, q: usize, n: usize) -> b
     requires { Counts x.now p q × PatchBegins x.now p begins.now }
     ensures { result ≡ any p (λ i. any (count x.now i) (λ j. leb n (number16 (entries_part_of x.now i) (4 * j + 2)))) }
 {
-    let mut i = 0;
-    while i < p {
+    for i in 0..p {
         if row_next_bad(super::entries_of(x, begins, p, q, i), n) {
             return true;
         }
-        i += 1;
     }
     false
 }

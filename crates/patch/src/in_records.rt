@@ -12,12 +12,10 @@ fn some_record_bad(x: &[u8], p: usize, q: usize, n: usize, k: usize) -> bool
     ensures { result ≡ any p (λ i. record_wrong n k (record_at_of x.now (records_at_of x.now + 4 * i))) }
 {
     let records = super::records_at(x, p, q);
-    let mut i = 0;
-    while i < p {
+    for i in 0..p {
         if contents::in_records::record_bad(image::record_at(x, records + 4 * i), n, k) {
             return true;
         }
-        i += 1;
     }
     false
 }
@@ -29,10 +27,8 @@ fn counts_sum(x: &[u8], p: usize, q: usize) -> usize
 {
     let records = super::records_at(x, p, q);
     let mut total: usize = 0;
-    let mut i = 0;
-    while i < p {
+    for i in 0..p {
         total += words::get16(x, records + 4 * i + 2) as usize;
-        i += 1;
     }
     total
 }
@@ -42,8 +38,5 @@ pub fn records_bad(x: &[u8], p: usize, q: usize, n: usize, k: usize) -> bool
     requires { Shaped x.now p q }
     ensures { result ≡ (any p (λ i. record_wrong n k (record_at_of x.now (records_at_of x.now + 4 * i))) || differ (sum p (count x.now)) q) }
 {
-    if some_record_bad(x, p, q, n, k) {
-        return true;
-    }
-    counts_sum(x, p, q) != q
+    some_record_bad(x, p, q, n, k) || counts_sum(x, p, q) != q
 }

@@ -20,10 +20,7 @@ pub fn shape_bad(x: &[u8]) -> bool
         return true;
     }
     let p = words::get16(x, 0) as usize;
-    if p < 1 {
-        return true;
-    }
-    if 64 < p {
+    if p < 1 || 64 < p {
         return true;
     }
     let q = words::get32(x, 6) as usize;
@@ -64,12 +61,10 @@ pub fn states_bad(x: &[u8], p: usize, q: usize, n: usize) -> bool
     requires { Shaped x.now p q }
     ensures { result ≡ any p (λ i. state_falls x.now i || leb n (state_at_of x.now i)) }
 {
-    let mut i = 0;
-    while i < p {
+    for i in 0..p {
         if state_bad(x, i, n) {
             return true;
         }
-        i += 1;
     }
     false
 }
@@ -90,11 +85,9 @@ pub fn begins_of(x: &[u8], p: usize, q: usize) -> [u32; 65]
     let records = records_at(x, p, q);
     let mut at = records + 4 * p;
     let mut begins = [0u32; 65];
-    let mut i = 0;
-    while i < p {
+    for i in 0..p {
         begins[i] = at as u32;
         at += 4 * (words::get16(x, records + 4 * i + 2) as usize);
-        i += 1;
     }
     begins[p] = at as u32;
     begins
@@ -116,11 +109,9 @@ pub fn slots_of(x: &[u8], p: usize, q: usize, n: usize) -> [u8; 512]
     ensures { Slots x.now n result }
 {
     let mut slots = [0u8; 512];
-    let mut i = 0;
-    while i < p {
+    for i in 0..p {
         let s = state_at(x, i);
-        i += 1;
-        slots[s] = i as u8;
+        slots[s] = (i + 1) as u8;
     }
     slots
 }

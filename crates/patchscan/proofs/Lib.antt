@@ -1,4 +1,3 @@
 pub mod Placed
 pub mod Found
-pub mod Turn
 pub mod Verdict

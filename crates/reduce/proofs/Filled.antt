@@ -2,20 +2,18 @@
 use mathlib.Core.Path.{◌≡◌, refl, sym, ap, ap₂, ◌∙◌}
 use mathlib.Core.Bool.{true}
 use mathlib.Core.List.{List, ◌++◌, append_assoc}
-use Prim.Native.Nat.{ℕ, ◌+◌, ◌*◌, ◌/◌, ◌≤◌, ◌<◌}
-use native.Mathlib.Decide.{dec_lt}
+use Prim.Native.Nat.{ℕ, ◌+◌, ◌*◌, ◌≤◌, ◌<◌}
 use native.Mathlib.Omega.{arith}
 use lib.ListN.{length, get_or, take, drop, length-append}
 use Rattle.paper.specs.Below.{each, list}
-use Rattle.paper.specs.Words.{number16, bytes16}
-use Rattle.paper.specs.Labels.{Edition, edition_of, first_word}
+use Rattle.paper.specs.Words.{bytes16}
+use Rattle.paper.specs.Labels.{first_word}
 use Rattle.paper.specs.Table.{edition, states, classes, start, class_of, labels, next, table_length}
 use Rattle.paper.specs.Results.{label_bytes_of, labels_held_of, table_from}
 use Rattle.paper.specs.FallBack.{levels}
 use Rattle.paper.specs.Reduce.{reached, reduced}
 use Rattle.paper.specs.Operations.{filled}
 use Rattle.paper.proofs.Below.{each_same}
-use Rattle.paper.proofs.Editions.{first_edition, second_edition}
 use Rattle.paper.proofs.Labels.{held_same}
 use Rattle.trips.proofs.Spans.{part_taken, length-each}
 use Rattle.trips.proofs.Numbers.{back_bytes, length_bytes, length-words}
@@ -24,20 +22,13 @@ use Rattle.trips.proofs.TableBytes.{made_length}
 use Rattle.words.specs.Placed.{placed}
 use Rattle.words.proofs.Placed.{placed-front}
 use Rattle.words.proofs.Behind.{placed-behind}
+use Rattle.facts.proofs.TableFacts.{AcceptedTable}
 use Rattle.reduction.specs.Left as left
 use Rattle.reduction.specs.Numbers.{Renumbers}
 use Rattle.reduction.proofs.Reach.{closed, reached_below}
 use Rattle.reduction.proofs.Renumbered.{left_le, old-reached}
 use Rattle.reduction.proofs.LabelBytes.{labels_same}
 use Rattle.reduce.specs.Pieces.{front, labels_of, goes_to, row_of}
-
--- The first word of so many states in the edition of a word.
-pub first_word_lem : (t : List ℕ) (word n : ℕ) → word ≡ number16 t 0 → word < 65536 → n ≤ 512 → word / 32768 * 32768 + n ≡ first_word (edition t) n
-first_word_lem t word n W small few = go (dec_lt word 32768) ∙ ap (λ (w : ℕ). first_word (edition_of w) n) W
-  where
-    go : Dec (word < 32768) → word / 32768 * 32768 + n ≡ first_word (edition_of word) n
-    go (yes h) = rw (first_edition word h) (omega arith)
-    go (no h) = rw (second_edition word (omega arith)) (omega arith)
 
 -- The classes of a table, copied.
 classes_copied : (t : List ℕ) → 262 ≤ length t → take 256 (drop 6 t) ≡ list 256 (class_of t)
@@ -81,14 +72,14 @@ length-rows t name rank old k n =
 regroup : (a b c d ls rows : List ℕ) → ((a ++ (b ++ (c ++ d))) ++ ls) ++ rows ≡ a ++ (b ++ (c ++ (d ++ (ls ++ rows))))
 regroup a b c d ls rows = simp append_assoc
 
-module _ (t name rank old : List ℕ) (count : ℕ) (R : Renumbers t name rank old count) where
+module _ (t name rank old : List ℕ) (count : ℕ) (A : AcceptedTable t) (R : Renumbers t name rank old count) where
   -- At most 512 states are left.
   pub few_left : count ≤ 512
-  few_left = omega (arith, R.left_are, left_le t (levels t), R.accepted.few_states)
+  few_left = omega (arith, R.left_are, left_le t (levels t), A.few_states)
 
   -- An old state is reached.
   old_in : (s : ℕ) → s < count → reached t (levels t) (left.old t (levels t) s) ≡ true
-  old_in s h = old-reached t (levels t) (closed t R.accepted) s (omega (arith, R.left_are))
+  old_in s h = old-reached t (levels t) (closed t A) s (omega (arith, R.left_are))
 
   -- So it is a state.
   pub old_below : (s : ℕ) → s < count → get_or old s 0 < states t
@@ -98,7 +89,7 @@ module _ (t name rank old : List ℕ) (count : ℕ) (R : Renumbers t name rank o
   pub next_named : (s c : ℕ) → s < count → c < classes t → get_or name (next t (get_or old s 0) c) 0 < 512
   next_named s c h hc =
       let q : next t (left.old t (levels t) s) c ≡ next t (get_or old s 0) c = ap (λ (x : ℕ). next t x c) (sym (R.olds_are s h)) in
-      omega (arith, R.accepted.few_states, ap (λ (x : ℕ). get_or name x 0) q, R.names_below (next t (left.old t (levels t) s) c) ((closed t R.accepted).step (left.old t (levels t) s) c hc (old_in s h)))
+      omega (arith, A.few_states, ap (λ (x : ℕ). get_or name x 0) q, R.names_below (next t (left.old t (levels t) s) c) ((closed t A).step (left.old t (levels t) s) c hc (old_in s h)))
 
   -- The labels are those of the states left.
   labels_are : (s : ℕ) → s < count → left.new_labels t (levels t) s ≡ labels_of t old s
@@ -108,7 +99,7 @@ module _ (t name rank old : List ℕ) (count : ℕ) (R : Renumbers t name rank o
   goes_are : (s c : ℕ) → s < count → c < classes t → left.new_next t (levels t) s c ≡ goes_to t name rank (get_or old s 0) c
   goes_are s c h hc =
       let x = left.old t (levels t) s in
-      sym (R.new_are (next t x c) ((closed t R.accepted).step x c hc (old_in s h))) ∙ ap (λ (y : ℕ). goes_to t name rank y c) (sym (R.olds_are s h))
+      sym (R.new_are (next t x c) ((closed t A).step x c hc (old_in s h))) ∙ ap (λ (y : ℕ). goes_to t name rank y c) (sym (R.olds_are s h))
 
   -- The rows of the states left.
   abbrev rows : ℕ → List ℕ
@@ -129,24 +120,23 @@ module _ (t name rank old : List ℕ) (count : ℕ) (R : Renumbers t name rank o
       (λ s h. each_same (classes t) (λ c. bytes16 (left.new_next t (levels t) s c)) (λ c. bytes16 (goes_to t name rank (get_or old s 0) c)) (λ c hc. ap bytes16 (goes_are s c h hc)))))
       ∙ rw (R.left_are, S) refl
 
-  module _ (e : Edition) (E : edition t ≡ e) (k held : ℕ) (K : k ≡ classes t) (H : held ≡ labels_held_of e count (labels_of t old)) where
+  module _ (k held : ℕ) (K : k ≡ classes t) (H : held ≡ labels_held_of (edition t) count (labels_of t old)) where
     -- The reduced table is as long as its counts say.
     pub reduced_long : length (reduced t) ≡ table_length count k held
     unfolding reduced
     reduced_long =
         made_length (edition t) (left.left t (levels t)) (classes t) (left.new t (levels t) (start t)) (class_of t) (left.new_labels t (levels t)) (left.new_next t (levels t))
-        ∙ rw (← R.left_are, ← K) (ap (λ (m : ℕ). table_length count k m) (held_same (edition t) count (left.new_labels t (levels t)) (labels_of t old) labels_are ∙ rw E (sym H)))
+        ∙ rw (← R.left_are, ← K) (ap (λ (m : ℕ). table_length count k m) (held_same (edition t) count (left.new_labels t (levels t)) (labels_of t old) labels_are ∙ sym H))
 
     -- Put one behind the other they are the reduced table.
     pub reduced-filled : (st : ℕ) (r₀ r₁ r₂ r₃ : List ℕ) → st ≡ left.new t (levels t) (start t) → table_length count k held ≤ length r₀ → r₁ ≡ placed r₀ 0 (front t count st)
-        → r₂ ≡ placed r₁ 262 (label_bytes_of e count (labels_of t old)) → r₃ ≡ placed r₂ (262 + 2 * count + 2 * held) (rows k) → r₃ ≡ filled (reduced t) r₀
+        → r₂ ≡ placed r₁ 262 (label_bytes_of (edition t) count (labels_of t old)) → r₃ ≡ placed r₂ (262 + 2 * count + 2 * held) (rows k) → r₃ ≡ filled (reduced t) r₀
     reduced-filled st r₀ r₁ r₂ r₃ S fits e₁ e₂ e₃ =
         let a = front t count st in
-        let ls = label_bytes_of e count (labels_of t old) in
+        let ls = label_bytes_of (edition t) count (labels_of t old) in
         let la = length_front t count st in
-        let ll = length-labels e count (labels_of t old) in
+        let ll = length-labels (edition t) count (labels_of t old) in
         placed-behind r₀ r₂ r₃ (a ++ ls) (rows k) 0 (262 + 2 * count + 2 * held) (omega (arith, length-append a ls)) (omega arith)
         (placed-behind r₀ r₁ r₂ a ls 0 262 (omega arith) (omega arith) e₁ e₂) e₃
-        ∙ ap (λ (f : Edition). placed r₀ 0 ((a ++ label_bytes_of f count (labels_of t old)) ++ rows k)) (sym E)
         ∙ ap (placed r₀ 0) (parts_are k st K S)
         ∙ placed-front r₀ (reduced t)

@@ -19,7 +19,6 @@ pub mod Claims
 pub mod Quiet
 pub mod FirstNames
 pub mod Rounds
-pub mod Changed
 pub mod Refined
 pub mod Numbered
 pub mod LabelBytes

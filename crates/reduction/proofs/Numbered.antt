@@ -99,7 +99,6 @@ module _ (t : List ℕ) (A : AcceptedTable t) (n : ℕ) (S : n ≡ states t) (p 
   numbers_renumber rank olds count M =
       let L : count ≡ left t (levels t) = M.counted ∙ ap (λ (m : ℕ). how_many_of m (own p)) S ∙ sym (own-count (states t) (omega arith)) ∙ sym (left_is t (levels t)) in
       record {
-        accepted = A;
         left_are = L;
         olds_are = λ s h.
             let x = old t (levels t) s in

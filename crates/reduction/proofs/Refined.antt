@@ -1,17 +1,14 @@
 -- The loop over the rounds: until nothing changes, n rounds at most.
 use mathlib.Core.Path.{◌≡◌, sym, ap, ◌∙◌, subst}
-use mathlib.Core.Bool.{false}
 use mathlib.Core.List.{List}
 use Prim.Native.Nat.{ℕ, ◌+◌, ◌≤◌, ◌<◌}
 use native.Mathlib.Numerals.{add-one}
 use native.Mathlib.Omega.{arith}
-use lib.ListN.{get_or}
-use Rattle.paper.specs.Below.{any, differ}
+use lib.ListN.{get_or, take}
+use Rattle.std.proofs.lemmas.List.{get_or-take}
 use Rattle.paper.specs.Table.{states}
 use Rattle.paper.specs.FallBack.{levels}
 use Rattle.paper.specs.Reduce.{blocks}
-use Rattle.paper.proofs.Below.{any_at}
-use Rattle.paper.proofs.Tests.{not_differ}
 use Rattle.facts.proofs.TableFacts.{AcceptedTable}
 use Rattle.reduction.specs.Named.{Named, Refines}
 use Rattle.reduction.proofs.Reach.{closed, reached_below}
@@ -19,7 +16,7 @@ use Rattle.reduction.proofs.Quiet.{quiet_last}
 
 module _ (t : List ℕ) (A : AcceptedTable t) (n : ℕ) (N : n ≡ states t) where
   -- A round that changes nothing gives the names after n rounds.
-  pub refine_last : (p q : List ℕ) (i : ℕ) → i ≤ n → Named t i p → Refines t p q → any n (λ x. differ (get_or q x 0) (get_or p x 0)) ≡ false → Named t n p
+  pub refine_last : (p q : List ℕ) (i : ℕ) → i ≤ n → Named t i p → Refines t p q → take n q ≡ take n p → Named t n p
   refine_last p q i h P R e =
       record {
         names = λ x r.
@@ -30,12 +27,10 @@ module _ (t : List ℕ) (A : AcceptedTable t) (n : ℕ) (N : n ≡ states t) whe
       }
     where
       same : (y : ℕ) → y < states t → get_or q y 0 ≡ get_or p y 0
-      same y h = not_differ (get_or q y 0) (get_or p y 0) (any_at n y (λ x. differ (get_or q x 0) (get_or p x 0)) e (omega arith))
+      same y h =
+          let l : y < n = omega arith in
+          sym (get_or-take n q y 0 l) ∙ ap (λ (r : List ℕ). get_or r y 0) e ∙ get_or-take n p y 0 l
 
   -- A round that changes something brings one round more.
   pub refine_more : (p q : List ℕ) (i : ℕ) → Named t i p → Refines t p q → Named t (i + 1) q
   refine_more p q i P R = subst (λ (m : ℕ). Named t m q) (sym (add-one i)) (R i P)
-
-  -- After n rounds the names are those sought.
-  pub refine_end : (p : List ℕ) (i : ℕ) → i ≤ n → n ≤ i → Named t i p → Named t n p
-  refine_end p i h h' P = let z : i ≡ n = omega arith in subst (λ (m : ℕ). Named t m p) z P

@@ -12,7 +12,7 @@ use Rattle.paper.specs.Below.{every, when, or, or_else, first_of}
 use Rattle.paper.specs.Table.{states, classes, next}
 use Rattle.paper.specs.FallBack.{levels}
 use Rattle.paper.specs.Reduce.{reached, alike, blocks}
-use Rattle.paper.proofs.Below.{and_true, every_all, bool_false}
+use Rattle.paper.proofs.Below.{and_true, every_all}
 use Rattle.facts.proofs.TableFacts.{AcceptedTable}
 use Rattle.reduction.specs.Named.{Named, Refines, meets, NoneBelow, first_alike_of, name_after_of}
 use Rattle.reduction.proofs.Firsts.{Least, first_least, least_found}
@@ -85,19 +85,6 @@ module _ (t p : List ℕ) where
             omega arith,
             N.names x e ∙ sym (ap (λ (y : ℕ). get_or p y 0) (N.names x e) ∙ N.names m r ∙ name_named t (levels t) (closed t A) i x e),
           )
-
-      -- No state below it has that name.
-      none_before : NoneBelow t p x (get_or p x 0)
-      none_before z l =
-          bool_false (meets t p x z)
-          (λ e.
-          let q = meets_name x z e in
-          let r = name_given z (omega (arith, name_head.0)) (λ w. ne (q ∙ w)) in
-          omega (arith, q, (name_small z r).0))
-
-      -- A state that is alike the state that names it keeps its name.
-      pub after-head : meets t p x (get_or p x 0) ≡ true → get_or p x 0 ≡ name_after_of t p x
-      after-head q = search_found x (get_or p x 0) name_head.0 none_before q ∙ after_some x ne
 
     -- Reached states are alike by the array just where they are by the blocks.
     meets_is : (x y : ℕ) → reached t (levels t) x ≡ true → reached t (levels t) y ≡ true → meets t p x y ≡ alike t (levels t) (blocks t (levels t) i) x y

@@ -4,7 +4,6 @@ use Rattle.paper.specs.Below.{how_many_of}
 use Rattle.paper.specs.Table.{states}
 use Rattle.paper.specs.FallBack.{levels}
 use Rattle.paper.specs.Reduce.{reached}
-use Rattle.facts.proofs.TableFacts.{AcceptedTable}
 use Rattle.reduction.specs.Left as left
 
 -- The state names itself.
@@ -17,9 +16,8 @@ pub record NumbersOf (p : List ℕ) (n : ℕ) (rank old : List ℕ) (count : ℕ
   pub olds : (y : ℕ) → y < n → own p y ≡ true → get_or old (how_many_of y (own p)) 0 ≡ y
   pub counted : count ≡ how_many_of n (own p)
 
--- The states left of an accepted table, so many: their old states stand in the array old, and the new number of each reached state at its name in the array rank.
+-- The states left of a table, so many: their old states stand in the array old, and the new number of each reached state at its name in the array rank.
 pub record Renumbers (t name rank old : List ℕ) (count : ℕ) : Type 0 where
-  pub accepted : AcceptedTable t
   pub left_are : count ≡ left.left t (levels t)
   pub olds_are : (s : ℕ) → s < count → get_or old s 0 ≡ left.old t (levels t) s
   pub names_below : (x : ℕ) → reached t (levels t) x ≡ true → get_or name x 0 < states t

@@ -1,16 +1,16 @@
 -- The entries of a state with the default that stays: those of the image where it is the image's, else those of all classes.
 use mathlib.Core.Path.{◌≡◌, refl, sym, ap, subst, ◌∙◌}
 use mathlib.Core.List.{List, ◌++◌}
-use Prim.Native.Nat.{ℕ, suc, ◌+◌, ◌*◌, ◌-◌, ◌<◌}
+use Prim.Native.Nat.{ℕ, suc, ◌+◌, ◌*◌, ◌<◌}
 use native.Mathlib.Decide.{ℕ_discrete}
 use native.Mathlib.Omega.{arith}
-use lib.ListN.{length, get_or, take, drop, length-take, length-drop}
+use lib.ListN.{length, get_or, take, drop}
 use Rattle.paper.specs.Below.{each}
 use Rattle.paper.specs.Words.{Bytes, bytes16}
 use Rattle.paper.specs.Labels.{Edition}
 use Rattle.paper.specs.Table as table
 use Rattle.paper.specs.View.{View}
-use Rattle.paper.specs.Image.{states, classes, behind, count, entry_at, entries_part_of, default, default_from_of, image_view}
+use Rattle.paper.specs.Image.{states, classes, count, entry_at, entries_part_of, default, default_from_of, image_view}
 use Rattle.paper.specs.Results.{default_number_of, labels_held_of, front, entry_bytes, table_view, image_of, table_of}
 use Rattle.paper.proofs.Below.{each_same}
 use Rattle.facts.proofs.ImageFacts.{AcceptedImage}
@@ -21,9 +21,6 @@ use Rattle.trips.proofs.ImageReads.{ImageReads}
 use Rattle.trips.proofs.ImageOf.{reads}
 use Rattle.trips.proofs.TableOf.{table_of_writable, image_of_table}
 use Rattle.trips.proofs.ResultBytes.{table_of_bytes}
-use Rattle.image.proofs.Accepted.{accepted_laid}
-use Rattle.image.proofs.Places.{Between}
-use Rattle.image.proofs.Parts.{part_between, between}
 use Rattle.chains.specs.Sweeps.{Falls}
 use Rattle.chains.proofs.Defaults.{from_none}
 use Rattle.build.specs.Pieces.{classes_and_labels, kept_entry, kept_row}
@@ -109,18 +106,9 @@ module _ (b : List ℕ) (B : Bytes b) (A : AcceptedImage b) where
       length-labels_of = length-labelled t
 
 module _ {b : List ℕ} {n k records : ℕ} {begins stay : List ℕ} (S : Setting b n k records begins stay) (def : List ℕ) (F : Falls (image_view b) n def) (s : ℕ) (hs : s < n) where
-  -- Where the entries of a state begin and end stands in the image.
-  pub row_between : Between b begins s
-  row_between = between b (accepted_laid b S.accepted) s (omega (arith, S.states_are)) begins S.begin
-
-  -- What is copied are the entries of a state whose default stays, and it is so long.
-  pub row_copied : get_or def s 0 ≡ get_or stay s 0
-      → (take (get_or begins (s + 1) 0 - get_or begins s 0) (drop (get_or begins s 0) b) ≡ kept_row (table_of b) k stay s) × (length (kept_row (table_of b) k stay s) ≡ get_or begins (s + 1) 0 - get_or begins s 0)
-  row_copied e =
-      let L = accepted_laid b S.accepted in
-      let below : s < states b = omega (arith, S.states_are) in
-      let row = part_between b L s below begins S.begin ∙ part_kept b S.readable S.accepted stay s k below S.classes_are (ap default_from_of (sym e) ∙ sym (F.falls s hs)) in
-      (row, ap length (sym row) ∙ (length-take (get_or begins (s + 1) 0 - get_or begins s 0) (drop (get_or begins s 0) b) ∙ omega (arith, length-drop (get_or begins s 0) b, row_between.rising, row_between.inside)))
+  -- The part of a state whose default stays are its entries.
+  pub row_kept : get_or def s 0 ≡ get_or stay s 0 → entries_part_of b s ≡ kept_row (table_of b) k stay s
+  row_kept e = part_kept b S.readable S.accepted stay s k (omega (arith, S.states_are)) S.classes_are (ap default_from_of (sym e) ∙ sym (F.falls s hs))
 
   -- A default that does not stay is dropped.
   pub row_dropped : ¬ (get_or def s 0 ≡ get_or stay s 0) → get_or stay s 0 ≡ 65535

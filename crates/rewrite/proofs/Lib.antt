@@ -5,3 +5,4 @@ pub mod Hopping
 pub mod Sweeping
 pub mod Entries
 pub mod Verdict
+pub mod Setting

@@ -1,13 +1,13 @@
 -- The table that an accepted image stands for: it is accepted, has the image's counts, and goes where the image's chains go.
-use mathlib.Core.Path.{◌≡◌, refl, sym, ap, ◌∙◌}
+use mathlib.Core.Path.{◌≡◌, refl, sym, ◌∙◌}
 use mathlib.Core.List.{List}
 use mathlib.Core.Option.{some}
-use Prim.Native.Nat.{ℕ, ◌+◌, ◌*◌, ◌<◌}
+use Prim.Native.Nat.{ℕ, ◌+◌, ◌<◌}
 use native.Mathlib.Omega.{arith}
-use Rattle.paper.specs.Words.{Bytes, number16}
+use Rattle.paper.specs.Words.{Bytes}
 use Rattle.paper.specs.Table as table
 use Rattle.paper.specs.View.{look}
-use Rattle.paper.specs.Image.{edition, states, classes, start, class_of, labels, behind, entries, records_at_of, default, count, image_view}
+use Rattle.paper.specs.Image.{edition, states, classes, start, class_of, labels, behind, entries, default, count, image_view}
 use Rattle.paper.specs.Results.{table_view, table_of}
 use Rattle.paper.specs.Operations.{judge_image_of}
 use Rattle.paper.proofs.Labels.{behind_same}
@@ -56,11 +56,6 @@ module _ (b : List ℕ) (B : Bytes b) (A : AcceptedImage b) where
   count-shared s d hs e =
       let R = table_reads in
       omega (arith, views_agree.count_same s (omega (arith, R.states_is)), stored-shared t (default b) s d e, R.classes_is)
-
--- What is read in the record of a state is its count.
-pub count_read : (b : List ℕ) (records s x : ℕ) → records ≡ records_at_of b → x ≡ number16 b (records + 4 * s + 2) → x ≡ count b s
-unfolding count
-count_read b records s x e q = q ∙ ap (λ (r : ℕ). number16 b (r + 4 * s + 2)) e
 
 -- An accepted image has passed the first grounds, with its counts under any names.
 pub passed_as : (b : List ℕ) → AcceptedImage b → (n m : ℕ) → n ≡ states b → m ≡ entries b → Passed b n (classes b) m

@@ -9,14 +9,19 @@ use lib.Dec.{eqb}
 use lib.ListN.{get_or, get_or-eq_default}
 use borrow.Author.Tests.{eq-eqb, eqb-true}
 use Rattle.paper.specs.Below.{every, list}
-use Rattle.paper.specs.Table.{classes}
+use Rattle.std.specs.Ordering.{MatchOrdering, is_eq}
+use Rattle.std.specs.declared.cmp.Ordering.{Ordering}
+use Rattle.std.specs.declared.cmp.Ordering.TheVariants.{Less, Equal, Greater}
+use Rattle.std.proofs.lemmas.Bool.{false≢true}
+use Rattle.paper.specs.Table.{states, classes}
 use Rattle.paper.proofs.Below.{and_true, bool_false, every_all, every_at}
 use Rattle.paper.proofs.Lists.{length-list, get_or-list}
-use Rattle.reduction.specs.Named.{meets, name_after_of}
-use Rattle.reduction.proofs.Rounds.{search_found, after_some}
+use Rattle.reduction.specs.Named.{meets, name_after_of, SomeRound}
+use Rattle.reduction.proofs.Rounds.{search_found, after_some, name_head}
+use Rattle.facts.proofs.TableFacts.{AcceptedTable}
 use Rattle.naming.specs.Ordered.{Same, Before, BeforeIn}
 use Rattle.naming.specs.Heads.{First}
-use Rattle.rounds.specs.Steps.{after, steps, HasName}
+use Rattle.rounds.specs.Steps.{after, steps, HasName, Headed}
 
 module _ (t p : List ℕ) where
   -- A state with the lesser name comes before.
@@ -69,3 +74,25 @@ module _ (t p : List ℕ) where
       (λ z l. bool_false (meets t p x z) (λ w. let s = meets_same x z w in F.none z l (λ q. n (s 0 ∙ q)) s))
       (same_meets x r F.same)
       ∙ after_some t p x n
+
+  -- Of a named state the state that names it is the first with its steps, where it has them.
+  pub first_head : Headed (states t) p → (x : ℕ) → x < states t → HasName p x → Same (steps t p x) (steps t p (get_or p x 0)) → First (steps t p) (HasName p) x (get_or p x 0)
+  first_head H x h n s =
+      let (l, e) = H x h n in record {
+        below = l;
+        counts = λ w. n (sym e ∙ w);
+        same = s;
+        none = λ z z_below c w.
+            let q : get_or p x 0 ≡ get_or p z 0 = w 0 in
+            omega (arith, q, (H z (omega arith) c).0);
+      }
+
+-- The names of some round are so.
+pub headed : (t p : List ℕ) → AcceptedTable t → SomeRound t p → Headed (states t) p
+headed t p A (i, N) x h n = let (l, _, e) = name_head t p A i N x h n in (l, sym e)
+
+-- A comparison that answers that they are the same.
+pub is_same : (P Q R : Type 0) (o : Ordering) → MatchOrdering o P Q R → is_eq o ≡ true → Q
+is_same P Q R Less m e = absurd (false≢true e)
+is_same P Q R Equal m e = m
+is_same P Q R Greater m e = absurd (false≢true e)

@@ -1,5 +1,5 @@
 -- The numbers by which a round orders states.
-use Rattle.std.specs.Prelude.{◌≡◌, List, ℕ, zero, suc, get_or}
+use Rattle.std.specs.Prelude.{◌≡◌, List, ℕ, zero, suc, ◌≤◌, ◌<◌, get_or}
 use Rattle.paper.specs.Below.{list}
 use Rattle.paper.specs.Table.{classes, next}
 
@@ -16,3 +16,7 @@ module _ (t p : List ℕ) where
 -- The states that have a name count.
 abbrev pub HasName : List ℕ → ℕ → Type 0
 HasName p x = ¬ (get_or p x 0 ≡ 65535)
+
+-- Of n states each that has a name has that of a state not above it, which names itself.
+abbrev pub Headed : ℕ → List ℕ → Type 0
+Headed n p = (x : ℕ) → x < n → HasName p x → (get_or p x 0 ≤ x) × (get_or p (get_or p x 0) 0 ≡ get_or p x 0)

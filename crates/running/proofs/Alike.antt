@@ -8,7 +8,7 @@ use Rattle.paper.specs.Scan.{Run, begun}
 use Rattle.paper.specs.Operations.{scanning, filled}
 use Rattle.paper.specs.Promises.{SameWalk}
 use Rattle.running.proofs.Bytewise.{next, fits}
-use Rattle.running.proofs.Rules.{Rules, found_on, going, run_of}
+use Rattle.running.specs.Rules.{Rules, found_on, going, run_of}
 
 -- A scan without its hops.
 abbrev pub bare : Run → Run

@@ -8,7 +8,7 @@ use lib.ListN.{length}
 use Rattle.paper.specs.Words.{Bytes}
 use Rattle.paper.specs.View.{Found}
 use Rattle.paper.specs.Scan.{Run, begun, advanced}
-use Rattle.running.proofs.Rules.{Rules, found_on, going, run_of}
+use Rattle.running.specs.Rules.{Rules, found_on, going, run_of}
 
 -- From each state the same is found for each byte, and it is one of the states; each state has the same labels.
 pub record Equal (R R' : Rules) : Type 0 where

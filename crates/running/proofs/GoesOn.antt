@@ -14,7 +14,7 @@ use Rattle.paper.specs.Scan.{Run, begun, report_bytes}
 use Rattle.words.specs.Placed.{placed}
 use Rattle.words.proofs.Placed.{placed_then}
 use Rattle.running.proofs.Bytewise.{run_fits, run_full}
-use Rattle.running.proofs.Rules.{Rules, found_on, going, Reached}
+use Rattle.running.specs.Rules.{Rules, found_on, going, Reached}
 use Rattle.running.proofs.Report.{reports_length}
 use Rattle.running.proofs.Going.{at, Going}
 

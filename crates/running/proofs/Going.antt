@@ -1,5 +1,5 @@
 -- The scan at the head of its loop: what is left of the payload, scanned from the running scan, gives what the whole payload gives.
-use mathlib.Core.Path.{◌≡◌, refl, sym, ap, ◌∙◌}
+use mathlib.Core.Path.{◌≡◌, refl, sym, ap, subst, ◌∙◌}
 use mathlib.Core.List.{List, []}
 use Prim.Native.Nat.{ℕ, ◌*◌, ◌/◌, ◌≤◌, ◌<◌}
 use native.Mathlib.Omega.{arith}
@@ -9,7 +9,7 @@ use Rattle.paper.specs.Operations.{filled, scanning}
 use Rattle.paper.specs.Promises.{IsScanned}
 use Rattle.words.specs.Placed.{placed}
 use Rattle.words.proofs.Placed.{placed_nothing, placed-front, length-placed}
-use Rattle.running.proofs.Rules.{Rules, going, run_of}
+use Rattle.running.specs.Rules.{Rules, going, run_of}
 
 -- The running scan: the state, the reports and the hops after i bytes, and the bytes of the reports.
 abbrev pub at : ℕ → ℕ → ℕ → ℕ → List ℕ → Run
@@ -64,3 +64,10 @@ going_answers {room₀} g e =
       hops_is = ap (λ (q : Run). q.hops) (sym e);
       room_is = g.room_is ∙ placed-front room₀ g.written ∙ ap (λ (q : Run). filled q.written room₀) (sym e);
     }
+
+-- At the payload's end.
+pub going_ended : {R : Rules} {state : ℕ} {payload room₀ room : List ℕ} {s reports hops i : ℕ} (g : Going R (length room₀ / 6) state payload room₀ room s reports hops i) → length payload ≤ i
+    → IsScanned (scanning 0 (run_of R state payload (length room₀)) room₀) 0 (length payload) s reports hops room
+going_ended {R} {state} {payload} {room₀} {room} {s} {reports} {hops} g h =
+    let P : ℕ → Type 0 = λ n. IsScanned (scanning 0 (run_of R state payload (length room₀)) room₀) 0 n s reports hops room in
+    subst P (omega (arith, g.within)) (going_answers g (going_done g h))

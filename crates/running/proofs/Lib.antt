@@ -1,10 +1,12 @@
 pub mod Walk
 pub mod Bytewise
 pub mod Prefix
-pub mod Rules
 pub mod Alike
 pub mod Equal
 pub mod Report
 pub mod Going
 pub mod GoesOn
+pub mod Stands
+pub mod Turn
 pub mod Verdict
+pub mod Outcome

@@ -9,7 +9,7 @@ use Rattle.paper.specs.Words.{number16, bytes16, bytes32}
 use Rattle.paper.specs.Scan.{report_bytes}
 use Rattle.paper.proofs.Lists.{length-list}
 use Rattle.words.specs.Placed.{placed}
-use Rattle.words.proofs.Placed.{placed_then, length-placed}
+use Rattle.words.proofs.Placed.{placed_then}
 use Rattle.labels.specs.Tags.{numbers_from}
 
 -- A report has 6 bytes.
@@ -46,7 +46,3 @@ report_more room₀ room room' b at offset from label j h e l d =
     d ∙ ap (λ (x : List ℕ). placed x (at + 6 * j) (report_bytes offset (label ∷ []))) e
     ∙ placed_then room₀ at before (at + 6 * j) (omega arith) (omega (arith, reports_length offset (label ∷ []))) (report_bytes offset (label ∷ []))
     ∙ ap (placed room₀ at) (sym (reports_append offset (numbers_from b from j) (label ∷ [])) ∙ ap (report_bytes offset) all)
-
--- The room keeps its length.
-pub reports_keep : (room₀ room b : List ℕ) (at offset from j : ℕ) → at + 6 * j ≤ length room₀ → room ≡ placed room₀ at (report_bytes offset (numbers_from b from j)) → length room ≡ length room₀
-reports_keep room₀ room b at offset from j h e = ap length e ∙ length-placed room₀ at (report_bytes offset (numbers_from b from j)) (omega (arith, numbers-length b offset from j))

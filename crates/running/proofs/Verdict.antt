@@ -6,36 +6,33 @@ use Prim.Native.Nat.{ℕ, zero, suc, ◌≤◌, ◌<◌}
 use native.Mathlib.Omega.{arith}
 use lib.Dec.{ltb, leb}
 use lib.ListN.{length}
-use borrow.Author.Tests.{le-leb, lt-leb, lt-ltb, le-ltb, leb-false, ltb-false}
+use borrow.Author.Tests.{lt-leb, le-ltb, leb-false, ltb-false}
 use Rattle.paper.specs.Refusals.{Ground, first}
 use Rattle.paper.specs.Scan.{Run}
 use Rattle.paper.specs.Operations.{run_grounds, Scanned, scanning}
 use Rattle.paper.specs.Promises.{IsScanned}
+use Rattle.answers.specs.Numbers.{number_of}
+use Rattle.answers.specs.declared.Refusal.{Refusal}
+use Rattle.answers.proofs.Told.{not_zero}
 use Rattle.paper.proofs.Exact.{number_scanning}
 use Rattle.paper.proofs.Refusals.{numbered, past, first_append}
 
--- The five numbers of a refusal.
-abbrev pub Zeros : ℕ → ℕ → ℕ → ℕ → ℕ → ℕ → Type 0
-Zeros v number taken state reports hops = (number ≡ v) × (taken ≡ 0) × (state ≡ 0) × (reports ≡ 0) × (hops ≡ 0)
-
+-- A refusal answers its number and zeros, and leaves the room.
 refusing : (v : ℕ) (r : Run) (room : List ℕ) → ¬ (v ≡ 0) → IsScanned (scanning v r room) v 0 0 0 0 room
 refusing zero r room n = absurd (n refl)
 refusing (suc v) r room n = record { number_is = refl; taken_is = refl; state_is = refl; reports_is = refl; hops_is = refl; room_is = refl }
+
+-- A refusal comes before what later grounds give.
+past_refused : (v l : ℕ) → ¬ (v ≡ 0) → past v l ≡ v
+past_refused zero l n = absurd (n refl)
+past_refused (suc v) l n = refl
 
 module _ (n s : ℕ) (payload : List ℕ) where
   -- What the grounds 14 and 15 give.
   abbrev pub later : ℕ
   later = first (run_grounds n s payload)
 
-  -- The state is not below n.
-  pub later_state : n ≤ s → later ≡ 14
-  later_state h = rw (le-leb n s h)
-
-  -- It is, and the payload is over 65,536 bytes.
-  pub later_payload : s < n → 65536 < length payload → later ≡ 15
-  later_payload h l = rw (lt-leb n s h, lt-ltb 65536 (length payload) l)
-
-  -- Neither.
+  -- Neither of them applies where the state is below n and the payload is not over 65,536 bytes.
   pub later_none : s < n → length payload ≤ 65536 → later ≡ 0
   later_none h l = rw (lt-leb n s h, le-ltb 65536 (length payload) l)
 
@@ -57,15 +54,6 @@ module _ (gs : List Ground) (ok : numbered gs ≡ true) (n s : ℕ) (payload : L
   pub verdict_judged : first gs ≡ 0 → first (gs ++ run_grounds n s payload) ≡ later n s payload
   verdict_judged e = verdict_past ∙ rw e
 
-  -- What is answered by the judge where it refuses, and by 14 and 15 where it accepts, is the verdict.
-  pub ground_is : (judged ground : ℕ) → judged ≡ first gs → (¬ (judged ≡ 0) → ground ≡ judged) × (judged ≡ 0 → ground ≡ later n s payload)
-      → first (gs ++ run_grounds n s payload) ≡ ground
-  ground_is judged ground e (refuses, accepts) = verdict_past ∙ rw (← e) (go judged refuses accepts)
-    where
-      go : (v : ℕ) → (¬ (v ≡ 0) → ground ≡ v) → (v ≡ 0 → ground ≡ later n s payload) → past v (later n s payload) ≡ ground
-      go zero refuses accepts = sym (accepts refl)
-      go (suc v) refuses accepts = sym (refuses (λ z. absurd (omega (arith, z))))
-
   -- It is 0 only where the judge accepts, the state is below n and the payload is not too long.
   pub verdict_clear : first (gs ++ run_grounds n s payload) ≡ 0 → (first gs ≡ 0) × (s < n) × (length payload ≤ 65536)
   verdict_clear e = passed (first gs) (sym verdict_past ∙ e)
@@ -79,10 +67,17 @@ module _ (gs : List Ground) (ok : numbered gs ≡ true) (n s : ℕ) (payload : L
     abbrev outcome : Scanned
     outcome = scanning (first (gs ++ run_grounds n s payload)) r room
 
-    -- A refusal answers its number and zeros, and leaves the room.
-    pub refused : (v number taken state reports hops : ℕ) → first (gs ++ run_grounds n s payload) ≡ v → ¬ (v ≡ 0) → Zeros v number taken state reports hops
-        → IsScanned outcome number taken state reports hops room
-    refused v number taken state reports hops e z (p, q, a, b, c) = rw (p, q, a, b, c, e) (refusing v r room z)
+    -- A refusal of the judge is the verdict.
+    pub refused_first : (e : Refusal) → number_of e ≡ first gs → IsScanned outcome (number_of e) 0 0 0 0 room
+    refused_first e q =
+        let v : first (gs ++ run_grounds n s payload) ≡ number_of e = verdict_past ∙ ap (λ (v : ℕ). past v (later n s payload)) (sym q) ∙ past_refused (number_of e) _ (not_zero e) in
+        rw v (refusing (number_of e) r room (not_zero e))
+
+    -- Where the judge accepts, that of 14 or 15 is.
+    pub refused_later : (e : Refusal) → 0 ≡ first gs → number_of e ≡ later n s payload → IsScanned outcome (number_of e) 0 0 0 0 room
+    refused_later e z q =
+        let v : first (gs ++ run_grounds n s payload) ≡ number_of e = verdict_judged (sym z) ∙ sym q in
+        rw v (refusing (number_of e) r room (not_zero e))
 
     -- No ground applies: the scan's four numbers are answered, and its reports left in the room.
     pub outcome_done : first (gs ++ run_grounds n s payload) ≡ 0 → outcome ≡ scanning 0 r room
@@ -94,3 +89,7 @@ module _ (gs : List Ground) (ok : numbered gs ≡ true) (n s : ℕ) (payload : L
         let none = sym (number_scanning (first (gs ++ run_grounds n s payload)) r room) ∙ e in
         let (i, j, k) = verdict_clear none in
         (i, j, k, outcome_done none)
+
+    -- The judge accepts, and neither 14 nor 15 applies.
+    pub outcome_ran : 0 ≡ first gs → 0 ≡ later n s payload → outcome ≡ scanning 0 r room
+    outcome_ran z q = outcome_done (verdict_judged (sym z) ∙ sym q)

@@ -5,3 +5,4 @@ pub mod Overlay
 pub mod Front
 pub mod Rows
 pub mod Standing
+pub mod Set

@@ -1,7 +1,6 @@
 -- The names that arrays hold, with the place in the list where the bytes of each stand, and one byte more of a string.
 use mathlib.Core.Path.{◌≡◌, refl, sym, ap, ◌∙◌}
 use mathlib.Core.Bool.{Bool, true, false, cond}
-use mathlib.Core.Logic.{◌⊎◌, inl, inr}
 use mathlib.Core.List.{List, [], ◌∷◌, ◌++◌}
 use Prim.Native.Nat.{ℕ, suc, ◌+◌, ◌≤◌, ◌<◌}
 use native.Mathlib.Decide.{ℕ_discrete}
@@ -59,7 +58,7 @@ module _ (b : List ℕ) (ws : List (List ℕ)) (rows parent last long from : Lis
       ∙ get_or-drop (get_or from s 0) b (length p) 0 in
       omega (arith, B (get_or from s 0 + length p))
 
-  module _ (p a r at j : ℕ) (rows' parent' last' long' : List ℕ) (S : Stepped ws p a r rows' parent' last' long')
+  module _ (p a r m at j : ℕ) (rows' parent' last' long' : List ℕ) (S : Stepped ws p a r m rows' parent' last' long')
       (ev : get_or ws p [] ++ (a ∷ []) ≡ part b at (suc j)) (fits : at + suc j ≤ length b) where
     -- The longer name.
     abbrev v : List ℕ
@@ -68,6 +67,10 @@ module _ (b : List ℕ) (ws : List (List ℕ)) (rows parent last long from : Lis
     -- The names with it.
     abbrev us : List (List ℕ)
     us = added ws v
+
+    -- They are so many.
+    count_is : length us ≡ m
+    count_is = ap (λ (w : List ℕ). length (added ws w)) (sym ev) ∙ S.counted
 
     -- The step answers its number,
     number_is : r ≡ number_of v us
@@ -81,68 +84,45 @@ module _ (b : List ℕ) (ws : List (List ℕ)) (rows parent last long from : Lis
     pub step_name : get_or us r [] ≡ v
     step_name = ap (λ (x : ℕ). get_or us x []) number_is ∙ get_or-number_of v us (added_there ws v)
 
-    -- Where there is no room there are more than 512 names.
-    pub step_full : r ≡ 512 → 512 < length us
-    step_full e = omega (arith, number_below)
-
-    -- Any other number is that of a state for which there is room.
-    pub step_below : ¬ (r ≡ 512) → r < 512
-    step_below d = go (among v ws) number_below
+    -- The names before are as they were,
+    before : (s : ℕ) → s < n → get_or us s [] ≡ get_or ws s []
+    before s h = go (among v ws)
       where
-        go : (t : Bool) → r < length (cond t ws (ws ++ (v ∷ []))) → r < 512
-        go true h = omega (arith, H.counted, H.few)
-        go false h = omega (arith, d, length-append ws (v ∷ []), H.counted, H.few)
+        go : (t : Bool) → get_or (cond t ws (ws ++ (v ∷ []))) s [] ≡ get_or ws s []
+        go true = refl
+        go false = get_or-append ws (v ∷ []) [] s (omega (arith, H.counted))
 
-    -- There is one more just where its number is their count before.
-    step_count : (m : ℕ) → ((r ≡ n) × (m ≡ n + 1)) ⊎ ((¬ (r ≡ n)) × (m ≡ n)) → (length us ≡ m) × ((s : ℕ) → s < n → get_or us s [] ≡ get_or ws s [])
-    step_count m o = go (among v ws) refl o
+    -- and there is no other.
+    earlier : (s : ℕ) → s < m → ¬ (s ≡ r) → s < n
+    earlier s h e = go (among v ws) refl count_is
       where
-        go : (t : Bool) → among v ws ≡ t → ((r ≡ n) × (m ≡ n + 1)) ⊎ ((¬ (r ≡ n)) × (m ≡ n))
-            → (length (cond t ws (ws ++ (v ∷ []))) ≡ m) × ((s : ℕ) → s < n → get_or (cond t ws (ws ++ (v ∷ []))) s [] ≡ get_or ws s [])
-        go true q (inl (e, f)) = absurd (omega (arith, number_is, added_number ws v, number_of_below v ws q, H.counted))
-        go true q (inr (e, f)) = (H.counted ∙ sym f, λ s h. refl)
-        go false q (inl (e, f)) =
-            (omega (arith, length-append ws (v ∷ []), H.counted), λ s h. get_or-append ws (v ∷ []) [] s (omega (arith, H.counted)))
-        go false q (inr (e, f)) = absurd (e (number_is ∙ added_number ws v ∙ number_of_absent v ws q ∙ H.counted))
+        go : (t : Bool) → among v ws ≡ t → length (cond t ws (ws ++ (v ∷ []))) ≡ m → s < n
+        go true q l = omega (arith, H.counted)
+        go false q l = omega (arith, e, number_is ∙ added_number ws v ∙ number_of_absent v ws q, length-append ws (v ∷ []), H.counted)
 
-    -- Else the arrays hold the names with it.
-    pub step_held : length from ≡ 512 → ¬ (r ≡ 512) → (m : ℕ) → ((r ≡ n) × (m ≡ n + 1)) ⊎ ((¬ (r ≡ n)) × (m ≡ n))
-        → Held b (added ws (part b at (suc j))) rows' parent' last' long' (set from r at) m × (r < m)
-    step_held big d m o = (
+    -- The arrays hold the names with it.
+    pub step_held : length from ≡ 512 → m ≤ 512 → Held b (added ws (part b at (suc j))) rows' parent' last' long' (set from r at) m × (r < m)
+    step_held big few = (
       record {
         grown = G;
-        counted = l;
-        few = below o;
+        counted = count_is;
+        few = few;
         inside = λ s h. (all s h (ℕ_discrete s r)).0;
         named = λ s h. (all s h (ℕ_discrete s r)).1;
       },
-      omega (arith, number_below, l),
+      omega (arith, number_below, count_is),
     )
       where
-        l : length us ≡ m
-        l = (step_count m o).0
-
-        old : (s : ℕ) → s < n → get_or us s [] ≡ get_or ws s []
-        old = (step_count m o).1
-
-        below : ((r ≡ n) × (m ≡ n + 1)) ⊎ ((¬ (r ≡ n)) × (m ≡ n)) → m ≤ 512
-        below (inl (e, f)) = omega (arith, step_below d)
-        below (inr (e, f)) = omega (arith, H.few)
-
         G : Grown us rows' parent' last' long'
-        G = rw ev at (S.grown (step_below d))
-
-        earlier : (s : ℕ) → s < m → ¬ (s ≡ r) → ((r ≡ n) × (m ≡ n + 1)) ⊎ ((¬ (r ≡ n)) × (m ≡ n)) → s < n
-        earlier s h e (inl (f, g)) = omega (arith, e)
-        earlier s h e (inr (f, g)) = omega arith
+        G = rw ev at S.grown
 
         own : get_or long' r 0 ≡ suc j
         own = G.longs r number_below ∙ ap length step_name ∙ part_length b at (suc j) fits
 
         all : (s : ℕ) → s < m → Dec (s ≡ r)
             → (get_or (set from r at) s 0 + get_or long' s 0 ≤ length b) × (get_or us s [] ≡ part b (get_or (set from r at) s 0) (get_or long' s 0))
-        all s h (yes e) = rw (e, get_or-set_same from r at 0 (omega (arith, step_below d)), own) (fits, step_name)
+        all s h (yes e) = rw (e, get_or-set_same from r at 0 (omega (arith, number_below, count_is)), own) (fits, step_name)
         all s h (no e) =
-            let k : s < n = earlier s h e o in
-            let same : get_or long' s 0 ≡ get_or long s 0 = G.longs s (omega (arith, l)) ∙ ap length (old s k) ∙ sym (H.grown.longs s (omega (arith, H.counted))) in
-            rw (get_or-set_other from r s at 0 e, same) (H.inside s k, old s k ∙ H.named s k)
+            let k : s < n = earlier s h e in
+            let same : get_or long' s 0 ≡ get_or long s 0 = G.longs s (omega (arith, count_is)) ∙ ap length (before s k) ∙ sym (H.grown.longs s (omega (arith, H.counted))) in
+            rw (get_or-set_other from r s at 0 e, same) (H.inside s k, before s k ∙ H.named s k)

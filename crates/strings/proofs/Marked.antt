@@ -1,5 +1,5 @@
 -- Marks for the bytes in use, and the classes that they give.
-use mathlib.Core.Path.{◌≡◌, sym, ap, ap₂, ◌∙◌}
+use mathlib.Core.Path.{◌≡◌, refl, sym, ap, ◌∙◌}
 use mathlib.Core.Bool.{Bool, true, false, not, ◌||◌, or-false, or_assoc}
 use mathlib.Core.List.{List, [], ◌∷◌, ◌++◌}
 use Prim.Native.Nat.{ℕ, ◌+◌, ◌<◌}
@@ -8,22 +8,15 @@ use native.Mathlib.Omega.{arith}
 use lib.Dec.{eqb}
 use lib.ListN.{length, get_or}
 use Rattle.paper.specs.Below.{any, bit, how_many_of, list}
-use Rattle.paper.specs.Words.{byte_at}
-use Rattle.paper.specs.Strings.{Rule, rules, count, size, string, used, spare, classes, class_of}
+use Rattle.paper.specs.Strings.{Rule, rules, count, string, used, spare, classes, class_of}
 use Rattle.paper.proofs.Below.{any_same}
 use Rattle.strings.proofs.Used.{Holds, held_used}
 use Rattle.strings.proofs.Listed.{rule_at, one_of_rules}
-use Rattle.strings.proofs.Places.{string_byte, string-length}
-use Rattle.strings.proofs.Shape.{Starts}
 use Rattle.strings.proofs.Classes.{class_used, class_unused}
 
 -- A byte is marked just where it stands in the string of some rule.
 abbrev pub Marked : List Rule → List Bool → Type 0
 Marked rs marks = (x : ℕ) → x < 256 → get_or marks x false ≡ used rs x
-
--- The byte is one of so many from a place on.
-abbrev pub within : List ℕ → ℕ → ℕ → ℕ → Bool
-within b at size x = any size (λ j. eqb (byte_at b (at + j)) x)
 
 -- A rule more uses the bytes of its string.
 used_more : (rs : List Rule) (r : Rule) (x : ℕ) → used (rs ++ (r ∷ [])) x ≡ used rs x || any (length r.string) (λ j. eqb (get_or r.string j 0) x)
@@ -32,32 +25,24 @@ used_more (q ∷ rs) r x =
     ap (λ (t : Bool). any (length q.string) (λ j. eqb (get_or q.string j 0) x) || t) (used_more rs r x)
     ∙ sym (or_assoc (any (length q.string) (λ j. eqb (get_or q.string j 0) x)) (used rs x) (any (length r.string) (λ j. eqb (get_or r.string j 0) x)))
 
-module _ (b starts : List ℕ) (n : ℕ) (S : Starts b starts n) where
-  -- The bytes of a string are those from its place on.
-  within_string : (i m x : ℕ) → i < n → m ≡ size b i → any (length (string b i)) (λ j. eqb (get_or (string b i) j 0) x) ≡ within b (get_or starts i 0 + 4) m x
-  within_string i m x h e =
-      ap (λ (l : ℕ). any l (λ j. eqb (get_or (string b i) j 0) x)) (string-length b S.shape.ending i (omega (arith, S.counted)) ∙ sym e)
-      ∙ any_same m (λ j. eqb (get_or (string b i) j 0) x) (λ j. eqb (byte_at b (get_or starts i 0 + 4 + j)) x)
-      (λ j hj. ap (λ (v : ℕ). eqb v x) (string_byte b i j (omega arith) ∙ ap (λ (at : ℕ). byte_at b (at + 4 + j)) (sym (S.start_is i h))))
-
-  -- So they are used.
-  pub string-used : (i j : ℕ) → i < n → j < size b i → used (rules b) (byte_at b (get_or starts i 0 + 4 + j)) ≡ true
+module _ (b : List ℕ) where
+  -- The bytes of a string are used.
+  pub string-used : (i j : ℕ) → i < count b → j < length (string b i) → used (rules b) (get_or (string b i) j 0) ≡ true
   string-used i j h hj =
-      let k : i < count b = omega (arith, S.counted) in
-      let e = string_byte b i j hj ∙ ap (λ (at : ℕ). byte_at b (at + 4 + j)) (sym (S.start_is i h)) in
-      held_used (rules b) (byte_at b (get_or starts i 0 + 4 + j)) ((one_of_rules (Holds (byte_at b (get_or starts i 0 + 4 + j))) b).1 (i, k, (j, omega (arith, string-length b S.shape.ending i k), e)))
+      let x : ℕ = get_or (string b i) j 0 in
+      held_used (rules b) x ((one_of_rules (Holds x) b).1 (i, h, (j, hj, refl)))
 
   -- With the marks of one string more.
-  pub marked_more : (i m : ℕ) (marks marks' : List Bool) → i < n → m ≡ size b i
-      → ((x : ℕ) → x < 256 → get_or marks' x false ≡ get_or marks x false || within b (get_or starts i 0 + 4) m x)
+  pub marked_more : (i : ℕ) (marks marks' : List Bool)
+      → ((x : ℕ) → x < 256 → get_or marks' x false ≡ get_or marks x false || any (length (string b i)) (λ j. eqb (get_or (string b i) j 0) x))
       → Marked (list i (rule_at b)) marks → Marked (list (i + 1) (rule_at b)) marks'
-  marked_more i m marks marks' h e f M x hx =
-      rw (add-one i) (f x hx ∙ ap₂ ◌||◌ (M x hx) (sym (within_string i m x h e)) ∙ sym (used_more (list i (rule_at b)) (rule_at b i) x))
+  marked_more i marks marks' f M x hx =
+      rw (add-one i) (f x hx ∙ ap (λ (t : Bool). t || any (length (string b i)) (λ j. eqb (get_or (string b i) j 0) x)) (M x hx) ∙ sym (used_more (list i (rule_at b)) (rule_at b i) x))
 
   -- With those of all strings.
-  pub marked_all : (i : ℕ) (marks : List Bool) → i ≡ n → Marked (list i (rule_at b)) marks → Marked (rules b) marks
+  pub marked_all : (i : ℕ) (marks : List Bool) → i ≡ count b → Marked (list i (rule_at b)) marks → Marked (rules b) marks
   unfolding rules
-  marked_all i marks e M x hx = M x hx ∙ ap (λ (m : ℕ). used (list m (rule_at b)) x) (e ∙ S.counted)
+  marked_all i marks e M x hx = M x hx ∙ ap (λ (m : ℕ). used (list m (rule_at b)) x) e
 
 -- Whether a class is kept is seen of the marks.
 pub spare-marked : (rs : List Rule) (marks : List Bool) → Marked rs marks → bit (any 256 (λ x. not (get_or marks x false))) ≡ spare rs

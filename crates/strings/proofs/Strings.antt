@@ -27,10 +27,6 @@ module _ (b starts : List ℕ) (n : ℕ) (S : Starts b starts n) (i : ℕ) (h : 
       let l : i < count b = omega (arith, S.counted) in
       omega (arith, S.start_is i h, place_inside b S.shape i l)
 
-  -- Its length is from 1 to 32.
-  pub string-size : (1 ≤ size b i) × (size b i ≤ 32)
-  string-size = S.shape.sizes i (omega (arith, S.counted))
-
   -- What is read as its length is its length.
   pub size_is : (x : ℕ) → x ≡ number16 b (get_or starts i 0 + 2) → x ≡ size b i
   size_is x q = size_read b i (get_or starts i 0) (S.start_is i h) x q

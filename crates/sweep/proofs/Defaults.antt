@@ -6,8 +6,6 @@ use native.Mathlib.Omega.{arith}
 use lib.ListN.{length}
 use Rattle.paper.specs.Words.{number16}
 use Rattle.paper.specs.Image.{records_at_of, default_from_of, default, image_view}
-use Rattle.image.specs.Forms.{number_of, fallback_from}
-use Rattle.image.proofs.Cases.{number_from}
 use Rattle.paper.proofs.Filled.{Filled}
 use Rattle.chains.specs.Sweeps.{Falls}
 use Rattle.image.specs.Passed.{Passed}
@@ -26,8 +24,8 @@ module _ {b : List ℕ} {n k m : ℕ} (P : Passed b n k m) where
   records_in = let L = P.laid in (omega (arith, L.long, P.states_are, P.entries_are), omega (arith, L.long, L.few_states, L.few_entries))
 
   -- What is read from a record is the number of its default.
-  pub number_read : (s x : ℕ) → x ≡ number_of (fallback_from (number16 b (length b - (4 * m + 12) - 4 * n + 4 * s))) → x ≡ default_number_of b s
-  number_read s x e = e ∙ number_from (number16 b (length b - (4 * m + 12) - 4 * n + 4 * s)) ∙ ap (λ (r : ℕ). number16 b (r + 4 * s)) records_are
+  pub number_read : (s x : ℕ) → x ≡ number16 b (length b - (4 * m + 12) - 4 * n + 4 * s) → x ≡ default_number_of b s
+  number_read s x e = e ∙ ap (λ (r : ℕ). number16 b (r + 4 * s)) records_are
 
   -- A list of these numbers is one of the defaults.
   pub filled-falls : (def : List ℕ) → Filled (default_number_of b) def n → Falls (image_view b) n def

@@ -10,7 +10,7 @@ use Rattle.paper.specs.View.{View, look}
 use Rattle.paper.proofs.Below.{largest_upper, largest_least}
 use Rattle.paper.proofs.Look.{hops_of, serves_look}
 use Rattle.chains.proofs.Far.{Far, far_more}
-use Rattle.abreast.specs.Keeps.{Served, Keeps, RowKeeps}
+use Rattle.abreast.specs.Keeps.{Keeps, RowKeeps}
 
 module _ {v : View} {n : ℕ} (counted : v.states ≡ n) where
   -- What a cell keeps for a class is 1024 more than the hops.

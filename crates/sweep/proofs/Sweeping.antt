@@ -80,12 +80,14 @@ module _ {v : View} (bytes : ℕ → List ℕ) {n : ℕ} (X : Fits v n) where
       go s j hs h l (yes u) = W.needed s j hs h u
       go s j hs h l (no u) = A.needed s hs j h (omega arith) l
 
-  -- After the last class none is needless anywhere, and the worst is known.
-  pub sweeping_done : {first most : ℕ} {place left wait to hop : List ℕ} → Sweeping v bytes n first place left wait to hop most → v.classes ≤ first
-      → (class_of : ℕ → ℕ) → Classed 256 v.classes class_of → (false ≡ any_entry v (same_as_default v)) × (most ≡ 1024 + worst_hops v class_of)
-  sweeping_done {first} W h class_of C = (
-    sym (any_none v.states (λ s. any (v.count s) (same_as_default v s)) (λ s hs.
+  module _ {first most : ℕ} {place left wait to hop : List ℕ} (W : Sweeping v bytes n first place left wait to hop most) (h : v.classes ≤ first) where
+    -- After the last class none is needless anywhere.
+    pub sweeping_none : false ≡ any_entry v (same_as_default v)
+    sweeping_none =
+        sym (any_none v.states (λ s. any (v.count s) (same_as_default v s)) (λ s hs.
         let hn : s < n = omega (arith, X.counted) in
-        any_none (v.count s) (same_as_default v s) (λ j hj. W.needed s j hn hj (omega (arith, X.class_below s j hn hj))))),
-    far_worst X.counted W.far h class_of C,
-  )
+        any_none (v.count s) (same_as_default v s) (λ j hj. W.needed s j hn hj (omega (arith, X.class_below s j hn hj)))))
+
+    -- And the worst is known.
+    pub sweeping_worst : (class_of : ℕ → ℕ) → Classed 256 v.classes class_of → most ≡ 1024 + worst_hops v class_of
+    sweeping_worst class_of C = far_worst X.counted W.far h class_of C

@@ -2,4 +2,4 @@ pub mod Either
 pub mod Rows
 pub mod Next
 pub mod Decided
-pub mod Judged
+pub mod Grounds

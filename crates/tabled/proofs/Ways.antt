@@ -9,7 +9,7 @@ use lib.ListN.{length, get_or, replicate}
 use borrow.Author.Tests.{lt-ltb, le-ltb}
 use Rattle.paper.specs.Below.{sum}
 use Rattle.paper.specs.Words.{Bytes}
-use Rattle.paper.specs.Refusals.{Ground, first}
+use Rattle.paper.specs.Refusals.{first}
 use Rattle.paper.specs.Strings.{rules, string, names, ends, tabulated}
 use Rattle.paper.specs.Operations.{building, filled}
 use Rattle.paper.specs.Promises.{IsBuilt}
@@ -23,7 +23,7 @@ use Rattle.strings.proofs.Held.{Held, held_small}
 use Rattle.strings.proofs.LevelTurn.{Prepared}
 use Rattle.strings.proofs.RowsFilled.{Filled}
 use Rattle.strings.proofs.Ready.{grown_prepared, grown_filled}
-use Rattle.labelling.specs.Ended.{Names, name_at}
+use Rattle.labelling.specs.Ended.{name_at}
 use Rattle.tabled.specs.Sized.{Sized}
 use Rattle.tabled.proofs.Assembled.{tabulated_long}
 
@@ -34,10 +34,6 @@ zeros (suc n) zero = refl
 zeros (suc n) (suc i) = zeros n i
 
 module _ {b rows parent last long from : List ℕ} {n : ℕ} (H : Held b (names (rules b)) rows parent last long from n) where
-  -- The names stand in the list.
-  pub held_names : Names b from long n
-  held_names = record { few = H.few; inside = H.inside }
-
   -- The names are ready for the filling.
   pub ready : {starts : List ℕ} {m : ℕ} → Starts b starts m → Bytes b → (links : List ℕ) → get_or links 0 0 ≡ 0 → Prepared (rules b) parent last long n × Filled (rules b) rows links 1 0
   ready S B links z = (
@@ -63,10 +59,10 @@ module _ {b starts : List ℕ} {m n k : ℕ} {from long counts : List ℕ} (S : 
     long_is = tabulated_long S ∙ sym e
 
     -- The room is shorter.
-    pub room_short : (number l : ℕ) → length room < whole → number ≡ 16 → l ≡ 0
-        → IsBuilt (building (first ((16, ltb (length room) (length (tabulated b))) ∷ [])) (tabulated b) room) number l room
-    room_short number l h e₁ e₂ =
-        rw e₂ (refused number (first ((16, ltb (length room) (length (tabulated b))) ∷ [])) (tabulated b) room (rw (lt-ltb (length room) (length (tabulated b)) (omega (arith, long_is))) e₁) (λ z. absurd (omega arith)))
+    pub room_short : length room < whole
+        → IsBuilt (building (first ((16, ltb (length room) (length (tabulated b))) ∷ [])) (tabulated b) room) 16 0 room
+    room_short h =
+        refused 16 (first ((16, ltb (length room) (length (tabulated b))) ∷ [])) (tabulated b) room (rw (lt-ltb (length room) (length (tabulated b)) (omega (arith, long_is))) refl) (λ z. absurd (omega arith))
 
     -- It is long enough.
     pub room_enough : whole ≤ length room → length (tabulated b) ≤ length room
@@ -77,18 +73,3 @@ module _ {b starts : List ℕ} {m n k : ℕ} {from long counts : List ℕ} (S : 
         → IsBuilt (building (first ((16, ltb (length room) (length (tabulated b))) ∷ [])) (tabulated b) room) 0 whole after
     room-filled after h q =
         built (first ((16, ltb (length room) (length (tabulated b))) ∷ [])) (tabulated b) room after whole (rw (le-ltb (length room) (length (tabulated b)) (omega (arith, long_is)))) (sym long_is) q
-
-module _ (b room : List ℕ) where
-  -- The grounds that are left: 28, 16.
-  abbrev last_grounds_of : List Ground
-  last_grounds_of = (28, ltb 512 (length (names (rules b)))) ∷ (16, ltb (length room) (length (tabulated b))) ∷ []
-
-  -- There are more than 512 states.
-  pub states_many : (number l : ℕ) → 512 < length (names (rules b)) → number ≡ 28 → l ≡ 0 → IsBuilt (building (first last_grounds_of) (tabulated b) room) number l room
-  states_many number l h e₁ e₂ =
-      rw e₂ (refused number (first last_grounds_of) (tabulated b) room (rw (lt-ltb 512 (length (names (rules b))) h) e₁) (λ z. absurd (omega arith)))
-
-  -- There are not.
-  pub states_few : {number l : ℕ} {after : List ℕ} → length (names (rules b)) ≤ 512
-      → IsBuilt (building (first ((16, ltb (length room) (length (tabulated b))) ∷ [])) (tabulated b) room) number l after → IsBuilt (building (first last_grounds_of) (tabulated b) room) number l after
-  states_few h B = rw (le-ltb 512 (length (names (rules b))) h) B

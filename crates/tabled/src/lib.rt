@@ -4,114 +4,79 @@
 ghost use Rattle.std.specs.Prelude.{◌≡◌, [], ◌∷◌, ◌≤◌, ltb, length};
 ghost use Rattle.paper.specs.Refusals.{first};
 ghost use Rattle.paper.specs.Strings as given;
-ghost use Rattle.paper.specs.Strings.{rules, names, class_of, tabulated};
+ghost use Rattle.paper.specs.Strings.{rules, class_of, tabulated};
 ghost use Rattle.paper.specs.Operations.{building, filled};
 ghost use Rattle.paper.specs.Promises.{IsBuilt};
 ghost use Rattle.paper.proofs.Filled.{Filled};
-ghost use Rattle.strings.proofs.Shape.{Starts};
+ghost use Rattle.answers.specs.Numbers.{answer_of, length_of};
 ghost use Rattle.strings.proofs.Held.{Held};
 ghost use Rattle.strings.proofs.Spread.{spread};
-ghost use Rattle.grow.specs.Sizes.{Sizes};
 ghost use Rattle.tabled.specs.Sized.{Sized};
 
-use answers::Built;
+use answers::Refusal;
+use classing::Classes;
+use labelling::Named;
+use rows::{Names, Rows};
+use wordlist::WordList;
 
 // Fills the rows of the names by failure links and writes the table.
 fn write_table(
-    list: &[u8],
-    starts: &[u16; 64],
-    count: usize,
-    rows: &mut [u16; 131072],
-    parent: &[u16; 512],
-    last: &[u8; 512],
-    long: &[u16; 512],
-    from: &[u16; 512],
-    n: usize,
-    k: u16,
-    classes: &[u8; 256],
+    named: &Named,
+    classes: &Classes,
     counts: &[u16; 512],
+    rows: &mut Rows,
     room: &mut [u8],
 )
-    requires { Starts list.now starts.now count × Sizes rows.old parent.now last.now long.now from.now
-        × Held list.now (names (rules list.now)) (spread classes.now rows.old) parent.now last.now long.now from.now n
-        × Sized list.now starts.now count n k from.now long.now counts.now
-        × Filled (class_of (rules list.now)) classes.now 256 × (length (tabulated list.now) ≤ length room.old) }
-    ensures { room.new ≡ filled (tabulated list.now) room.old }
+    requires { let b = named.now.list.now.bytes.now in let n = named.now.names.now in
+        Held b (given.names (rules b)) (spread classes.now.of rows.old) n.parent n.last n.long n.from n.count
+        × Sized b named.now.list.now.starts named.now.list.now.count n.count classes.now.count n.from n.long counts.now
+        × Filled (class_of (rules b)) classes.now.of 256 × (length (tabulated b) ≤ length room.old) }
+    ensures { room.new ≡ filled (tabulated named.now.list.now.bytes.now) room.old }
 {
     let mut links = [0u16; 512];
-    rows::fill_all(rows, &mut links, parent, last, long, n, classes, k as usize);
-    tableparts::emit(
-        list, starts, count, from, long, n, k, classes, counts, rows, room,
-    );
+    rows::fill_all(rows, &mut links, named.names, classes);
+    tableparts::emit(named, classes, counts, rows, room);
 }
 
-// 16: the room is shorter than the table. Else the table is written.
+// Writes the table and answers its length, where the room is not shorter.
 fn table_of(
-    list: &[u8],
-    starts: &[u16; 64],
-    count: usize,
-    rows: &mut [u16; 131072],
-    parent: &[u16; 512],
-    last: &[u8; 512],
-    long: &[u16; 512],
-    from: &[u16; 512],
-    n: usize,
-    classes: &[u8; 256],
-    k: u16,
+    named: &Named,
+    classes: &Classes,
+    rows: &mut Rows,
     room: &mut [u8],
-) -> Built
-    requires { Starts list.now starts.now count × Sizes rows.old parent.now last.now long.now from.now
-        × Held list.now (names (rules list.now)) (spread classes.now rows.old) parent.now last.now long.now from.now n
-        × (k ≡ given.classes (rules list.now)) × Filled (class_of (rules list.now)) classes.now 256 }
-    ensures { IsBuilt (building (first ((16, ltb (length room.old) (length (tabulated list.now))) ∷ [])) (tabulated list.now) room.old)
-        result.refused result.length room.new }
+) -> Result<u32, Refusal>
+    requires { let b = named.now.list.now.bytes.now in let n = named.now.names.now in
+        Held b (given.names (rules b)) (spread classes.now.of rows.old) n.parent n.last n.long n.from n.count
+        × (classes.now.count ≡ given.classes (rules b)) × Filled (class_of (rules b)) classes.now.of 256 }
+    ensures { let b = named.now.list.now.bytes.now in
+        IsBuilt (building (first ((16, ltb (length room.old) (length (tabulated b))) ∷ [])) (tabulated b) room.old)
+        (answer_of result) (length_of result) room.new }
 {
-    let counts = labelling::counts_of(list, starts, count, from, long, n);
+    let n = named.names.count;
+    let counts = named.counts();
     let held = tally::sum_of(&counts, n) as usize;
-    let whole = 262 + 2 * n + 2 * held + 2 * (n * k as usize);
+    let whole = 262 + 2 * n + 2 * held + 2 * (n * classes.count);
     if room.len() < whole {
-        return answers::not_built(16);
+        return Err(Refusal::Room);
     }
-    write_table(
-        list, starts, count, rows, parent, last, long, from, n, k, classes, &counts, room,
-    );
-    Built {
-        refused: 0,
-        length: whole as u32,
-    }
+    write_table(named, classes, &counts, rows, room);
+    Ok(whole as u32)
 }
 
-// The classes come first, since rows are by class. 28: more than 512 states. Else the table of the names is written.
-pub fn table_into(list: &[u8], starts: &[u16; 64], count: usize, room: &mut [u8]) -> Built
-    requires { Starts list.now starts.now count }
-    ensures { IsBuilt (building (first ((28, ltb 512 (length (names (rules list.now))))
-        ∷ (16, ltb (length room.old) (length (tabulated list.now))) ∷ [])) (tabulated list.now) room.old)
-        result.refused result.length room.new }
+// Puts the names in, by the classes of their bytes. Where there are not too many states the table of the names is written, and its length answered.
+pub fn table_into(list: &WordList, room: &mut [u8]) -> Result<u32, Refusal>
+    ensures { let b = list.now.bytes.now in
+        IsBuilt (building (first ((28, ltb 512 (length (given.names (rules b)))) ∷ (16, ltb (length room.old) (length (tabulated b))) ∷ [])) (tabulated b) room.old)
+        (answer_of result) (length_of result) room.new }
 {
-    let used = classing::used_of(list, starts, count);
-    let spare = classing::spare_of(&used);
-    let mut classes = [0u8; 256];
-    let k = classing::classes_of(&used, spare, &mut classes);
+    // Tried and slower: the rows behind the classes, where they are cleared twice.
     let mut rows = [0u16; 131072];
-    let mut parent = [0u16; 512];
-    let mut last = [0u8; 512];
-    let mut long = [0u16; 512];
-    let mut from = [0u16; 512];
-    let n = grow::put_all(
+    let mut names = Names::none();
+    let classes = Classes::of_list(list);
+    grow::put_all(&mut names, &mut rows, &classes, list).ok_or(Refusal::ManyStates)?;
+    let named = Named {
         list,
-        starts,
-        count,
-        &mut rows,
-        &mut parent,
-        &mut last,
-        &mut long,
-        &mut from,
-        &classes,
-    );
-    if n == 513 {
-        return answers::not_built(28);
-    }
-    table_of(
-        list, starts, count, &mut rows, &parent, &last, &long, &from, n, &classes, k, room,
-    )
+        names: &names,
+    };
+    table_of(&named, &classes, &mut rows, room)
 }

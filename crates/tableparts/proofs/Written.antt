@@ -1,12 +1,17 @@
 -- The parts of the table as they are written, over plain values.
-use mathlib.Core.Path.{◌≡◌, refl, ap, ◌∙◌}
-use mathlib.Core.List.{List, [], ◌∷◌, ◌++◌, append_assoc}
-use Prim.Native.Nat.{ℕ, suc, ◌+◌, ◌*◌, ◌≤◌, ◌<◌}
+use mathlib.Core.Path.{◌≡◌, refl, sym, ap, ap₂, ◌∙◌}
+use mathlib.Core.List.{List, ◌++◌, append_assoc}
+use Prim.Native.Nat.{ℕ, ◌+◌, ◌*◌, ◌≤◌}
 use native.Mathlib.Omega.{arith}
-use lib.ListN.{length, get_or, set, take, drop, length-append}
-use lib.Seq.{set_split}
-use Rattle.paper.specs.Below.{each}
-use Rattle.paper.specs.Words.{bytes16}
+use borrow.Author.Rules.{rules}
+use borrow.Rule.Slice.PartMut.{put_mid, post_of, mid_of}
+use Rattle.std.proofs.lemmas.Slice.{overwrites}
+use lib.ListN.{length, get_or, take, drop, length-append, length-drop}
+use lib.Seq.{length-take-le, get_or-take, get_or-drop}
+use Rattle.paper.specs.Below.{each, list}
+use Rattle.paper.specs.Words.{bytes16, all16}
+use Rattle.paper.proofs.Below.{each_same}
+use Rattle.paper.proofs.Lists.{list-get_or, all16-each}
 use Rattle.paper.specs.Operations.{filled}
 use Rattle.trips.proofs.Spans.{length-each}
 use Rattle.trips.proofs.Numbers.{length-words, length_bytes}
@@ -16,20 +21,37 @@ use Rattle.words.proofs.Behind.{placed-behind}
 use Rattle.labelling.specs.Ended.{labels_at}
 use Rattle.tableparts.specs.Pieces.{head, class_bytes, count_bytes_of, row_bytes, assembled}
 
--- One byte set down is that byte placed.
-pub set-placed : (room : List ℕ) (at v : ℕ) → at < length room → set room at v ≡ placed room at (v ∷ [])
+-- The classes of all bytes, put in as they are.
+pub classes_put : (room classes new : List ℕ) → length classes ≡ 256 → new ≡ classes → put_mid 6 256 room new ≡ placed room 6 (class_bytes classes)
 unfolding placed
-set-placed room at v h =
-    let e : suc at ≡ at + 1 = omega arith in
-    set_split room at v h ∙ ap (λ (m : ℕ). take at room ++ (v ∷ drop m room)) e
+classes_put room classes new l e =
+    let same : class_bytes classes ≡ classes = ap (λ (m : ℕ). list m (λ x. get_or classes x 0)) (sym l) ∙ list-get_or classes 0 in
+    let rest : post_of 6 256 room ≡ drop 262 room = search (rules, overwrites) in
+    let long : 6 + length (class_bytes classes) ≡ 262 = omega (arith, ap length same) in
+    ap₂ (λ (m n : List ℕ). take 6 room ++ (m ++ n)) (e ∙ sym same) (rest ∙ ap (λ (i : ℕ). drop i room) (sym long))
 
--- Three numbers, one behind the other.
-pub head-placed : (r₀ r₁ r₂ r₃ : List ℕ) (n k : ℕ) → 6 ≤ length r₀ → r₁ ≡ placed r₀ 0 (bytes16 (32768 + n)) → r₂ ≡ placed r₁ 2 (bytes16 k) → r₃ ≡ placed r₂ 4 (bytes16 0)
-    → r₃ ≡ placed r₀ 0 (head n k)
-unfolding bytes16
-head-placed r₀ r₁ r₂ r₃ n k h e₁ e₂ e₃ =
-    placed-behind r₀ r₂ r₃ (bytes16 (32768 + n) ++ bytes16 k) (bytes16 0) 0 4 refl (omega arith)
-    (placed-behind r₀ r₁ r₂ (bytes16 (32768 + n)) (bytes16 k) 0 2 refl (omega arith) e₁ e₂) e₃
+-- The first so many numbers, written one after the other,
+pub first_numbers : (xs : List ℕ) (n : ℕ) → n ≤ length xs → all16 (take n xs) ≡ each n (λ i. bytes16 (get_or xs i 0))
+first_numbers xs n h =
+    all16-each (take n xs)
+    ∙ ap (λ (m : ℕ). each m (λ i. bytes16 (get_or (take n xs) i 0))) (length-take-le n xs h)
+    ∙ each_same n (λ i. bytes16 (get_or (take n xs) i 0)) (λ i. bytes16 (get_or xs i 0)) (λ i l. ap bytes16 (get_or-take n xs i 0 l))
+
+-- and those of a row.
+pub row_numbers : (rows : List ℕ) (k s m : ℕ) → m ≡ k → s * 256 + k ≤ length rows → all16 (mid_of (s * 256) m rows) ≡ row_bytes rows k s
+row_numbers rows k s m e h =
+    let part = drop (s * 256) rows in
+    let p : mid_of (s * 256) m rows ≡ take m part = search rules in
+    rw (p, e) (
+    first_numbers part k (omega (arith, length-drop (s * 256) rows))
+    ∙ each_same k (λ i. bytes16 (get_or part i 0)) (λ i. bytes16 (get_or rows (s * 256 + i) 0)) (λ i l. ap bytes16 (get_or-drop (s * 256) rows i 0))
+    )
+
+-- They are so many.
+pub row_long : (rows : List ℕ) (k s m : ℕ) → m ≡ k → s * 256 + k ≤ length rows → length (mid_of (s * 256) m rows) ≡ k
+row_long rows k s m e h =
+    let p : mid_of (s * 256) m rows ≡ take m (drop (s * 256) rows) = search rules in
+    rw (p, e) (length-take-le k (drop (s * 256) rows) (omega (arith, length-drop (s * 256) rows)))
 
 -- The head takes 6 bytes.
 pub length-head : (n k : ℕ) → length (head n k) ≡ 6

@@ -6,18 +6,19 @@ ghost use Rattle.paper.specs.Below.{each};
 ghost use Rattle.paper.specs.Operations.{filled};
 ghost use Rattle.paper.proofs.Filled.{Filled};
 ghost use Rattle.words.specs.Placed.{placed};
-ghost use Rattle.strings.proofs.Shape.{Starts};
-ghost use Rattle.labelling.specs.Ended.{Names, ended_by};
-ghost use Rattle.tableparts.specs.Pieces.{head, class_bytes, count_bytes_of, row_bytes, assembled};
+ghost use Rattle.labelling.specs.Ended.{ended_by};
+ghost use Rattle.tableparts.specs.Pieces.{head, class_bytes, row_bytes, assembled};
+
+use classing::Classes;
+use labelling::Named;
+use rows::Rows;
 
 // Writes n with the edition, k and the start state 0.
-fn put_head(n: u16, k: u16, room: &mut [u8])
-    requires { (n ≤ 512) × (6 ≤ length room.old) }
+fn put_head(n: usize, k: usize, room: &mut [u8])
+    requires { (n ≤ 512) × (k ≤ 256) × (6 ≤ length room.old) }
     ensures { room.new ≡ placed room.old 0 (head n k) }
 {
-    words::put16(room, 0, 32768 + n);
-    words::put16(room, 2, k);
-    words::put16(room, 4, 0);
+    labelling::put_numbers(&[32768 + n as u16, k as u16, 0], room, 0);
 }
 
 // Writes the class of each byte.
@@ -25,78 +26,33 @@ fn put_classes(classes: &[u8; 256], room: &mut [u8])
     requires { 262 ≤ length room.old }
     ensures { room.new ≡ placed room.old 6 (class_bytes classes.now) }
 {
-    for x in 0..256 {
-        room[6 + x] = classes[x];
-    }
-}
-
-// Writes the count of labels of each state.
-fn put_counts(counts: &[u16; 512], n: usize, room: &mut [u8])
-    requires { (n ≤ 512) × (262 + 2 * n ≤ length room.old) }
-    ensures { room.new ≡ placed room.old 262 (each n (count_bytes_of counts.now)) }
-{
-    for s in 0..n {
-        let count = counts[s];
-        words::put16(room, 262 + 2 * s, count);
-    }
-}
-
-// Writes the row of a state.
-fn put_row(rows: &[u16; 131072], k: usize, s: usize, room: &mut [u8], at: usize)
-    requires { (s < 512) × (k ≤ 256) × (at + 2 * k ≤ length room.old) }
-    ensures { room.new ≡ placed room.old at (row_bytes rows.now k s) }
-{
-    for c in 0..k {
-        let next = rows[s * 256 + c];
-        words::put16(room, at + 2 * c, next);
-    }
+    room[6..262].copy_from_slice(classes);
 }
 
 // Writes the rows of all states.
-fn put_rows(rows: &[u16; 131072], n: usize, k: usize, room: &mut [u8], at: usize)
+fn put_rows(rows: &Rows, n: usize, k: usize, room: &mut [u8], at: usize)
     requires { (n ≤ 512) × (k ≤ 256) × (at + 2 * (n * k) ≤ length room.old) }
     ensures { room.new ≡ placed room.old at (each n (row_bytes rows.now k)) }
 {
     let mut here = at;
     for s in 0..n {
-        put_row(rows, k, s, room, here);
+        let row = s * 256;
+        labelling::put_numbers(&rows[row..row + k], room, here);
         here += 2 * k;
     }
 }
 
 // Writes all parts.
-pub fn emit(
-    list: &[u8],
-    starts: &[u16; 64],
-    count: usize,
-    from: &[u16; 512],
-    long: &[u16; 512],
-    n: usize,
-    k: u16,
-    classes: &[u8; 256],
-    counts: &[u16; 512],
-    rows: &[u16; 131072],
-    room: &mut [u8],
-)
-    requires { Starts list.now starts.now count × Names list.now from.now long.now n × (k ≤ 256)
-        × Filled (ended_by list.now count from.now long.now) counts.now n
-        × (length (assembled list.now from.now long.now n k classes.now counts.now rows.now) ≤ length room.old) }
+pub fn emit(named: &Named, classes: &Classes, counts: &[u16; 512], rows: &Rows, room: &mut [u8])
+    requires { Filled (ended_by named.now.list.now.bytes.now named.now.list.now.count named.now.names.now.from named.now.names.now.long) counts.now named.now.names.now.count
+        × (length (assembled named.now.list.now.bytes.now named.now.names.now.from named.now.names.now.long named.now.names.now.count classes.now.count classes.now.of counts.now rows.now) ≤ length room.old) }
     ensures { room.new
-        ≡ filled (assembled list.now from.now long.now n k classes.now counts.now rows.now) room.old }
+        ≡ filled (assembled named.now.list.now.bytes.now named.now.names.now.from named.now.names.now.long named.now.names.now.count classes.now.count classes.now.of counts.now rows.now) room.old }
 {
-    put_head(n as u16, k, room);
-    put_classes(classes, room);
-    put_counts(counts, n, room);
-    let end = labelling::put_labels(
-        list,
-        starts,
-        count,
-        from,
-        long,
-        n,
-        counts,
-        room,
-        262 + 2 * n,
-    );
-    put_rows(rows, n, k as usize, room, end);
+    let n = named.names.count;
+    put_head(n, classes.count, room);
+    put_classes(&classes.of, room);
+    labelling::put_numbers(&counts[..n], room, 262);
+    let end = named.put_labels(counts, room, 262 + 2 * n);
+    put_rows(rows, n, classes.count, room, end);
 }

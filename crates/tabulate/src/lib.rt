@@ -2,23 +2,30 @@
 #![tactic(auto)]
 
 ghost use Rattle.paper.specs.Promises.{Tabulates};
+ghost use Rattle.answers.specs.Numbers.{answer_of, length_of};
 
-use answers::Built;
+use answers::{Built, Refusal};
+use wordlist::WordList;
+
+// Writes the table of a list, or says why not.
+fn table_of(list: &[u8], room: &mut [u8]) -> Result<u32, Refusal>
+    ensures { Tabulates list.now room.old (answer_of result) (length_of result) room.new }
+{
+    let Some(list) = WordList::of(list) else {
+        return Err(Refusal::ListShape);
+    };
+    if list.labels_bad() {
+        return Err(Refusal::ListLabels);
+    }
+    if list.crowded() {
+        return Err(Refusal::Labels);
+    }
+    tabled::table_into(&list, room)
+}
 
 // Strings: word list into table.
 pub fn strings(list: &[u8], room: &mut [u8]) -> Built
     ensures { Tabulates list.now room.old result.refused result.length room.new }
 {
-    if wordlist::shape_bad(list) {
-        return answers::not_built(26);
-    }
-    let count = words::get16(list, 0) as usize;
-    let starts = wordlist::starts_of(list, count);
-    if wordlist::labels_bad(list, &starts, count) {
-        return answers::not_built(27);
-    }
-    if wordlist::crowded(list, &starts, count) {
-        return answers::not_built(19);
-    }
-    tabled::table_into(list, &starts, count, room)
+    Built::from(table_of(list, room))
 }

@@ -1,12 +1,10 @@
 -- Eight classes over all states, each after its default: the rows of the states passed hold their hops.
 use mathlib.Core.Path.{◌≡◌, refl, sym, ap, subst, ◌∙◌}
-use mathlib.Core.Bool.{Bool, true, false, cond}
 use mathlib.Core.Logic.{◌⊎◌, inl, inr}
 use mathlib.Core.List.{List}
 use Prim.Native.Nat.{ℕ, ◌+◌, ◌-◌, ◌*◌, ◌/◌, ◌≤◌, ◌<◌}
 use native.Mathlib.Decide.{ℕ_discrete, dec_lt}
 use native.Mathlib.Omega.{arith}
-use lib.Dec.{eqb}
 use lib.ListN.{length, get_or}
 use borrow.Author.Tests.{eq-eqb, ne_eqb, lt-ltb, le-ltb}
 use Rattle.paper.specs.Below.{largest}
@@ -17,8 +15,10 @@ use Rattle.paper.proofs.Below.{largest_upper, largest_least}
 use Rattle.words.proofs.Put.{Put}
 use Rattle.chains.proofs.Defaults.{from_some}
 use Rattle.chains.proofs.Hops.{Within, within_later, within_look}
-use Rattle.tally.specs.Owned.{list_view, Ordered}
-use Rattle.tally.specs.Hops.{last_again_of, Eight, hop_number, row_number, EightMost}
+use Rattle.chains.specs.Orders.{ParentFirst}
+use Rattle.table.specs.Counted.{Counted}
+use Rattle.tally.specs.Owned.{list_view}
+use Rattle.tally.specs.Hops.{last_again_of, Eight, row_number, EightMost}
 use Rattle.tally.proofs.Owned.{within_root, within_number}
 
 module _ {k c : ℕ} (classes : List ℕ) (E : Eight k c classes) (hc : c < k) where
@@ -42,7 +42,7 @@ pub record Hopping (t def order : List ℕ) (n : ℕ) (classes : List ℕ) (i : 
   pub long : length hop ≡ 4096
   pub rows : (p : ℕ) → p < i → (j : ℕ) → j < 8 → Within (list_view t def) i (get_or order p 0) (get_or classes j 0) (get_or hop (8 * get_or order p 0 + j) 0)
 
-module _ {t def order : List ℕ} {n k c : ℕ} (classes : List ℕ) (O : Ordered t n k def order) (E : Eight k c classes) (hc : c < k) where
+module _ {t def order : List ℕ} {n k c : ℕ} (classes : List ℕ) (T : Counted t n k) (O : ParentFirst n def order) (E : Eight k c classes) (hc : c < k) where
   -- At the start none is passed.
   pub hopping_start : (hop : List ℕ) → length hop ≡ 4096 → Hopping t def order n classes 0 hop
   hopping_start hop l = record { within = omega arith; long = l; rows = λ p h. absurd (omega arith) }
@@ -51,12 +51,12 @@ module _ {t def order : List ℕ} {n k c : ℕ} (classes : List ℕ) (O : Ordere
     -- The row of the default is known.
     row-default : ¬ (get_or def s 0 ≡ 65535) → (j : ℕ) → j < 8 → Within (list_view t def) i (get_or def s 0) (get_or classes j 0) (get_or hop (8 * get_or def s 0 + j) 0)
     row-default e j l =
-        let (p, hp, q) = O.first.after i (get_or def s 0) h (ap (λ (x : ℕ). default_from_of (get_or def x 0)) (sym w) ∙ from_some (get_or def s 0) e) in
+        let (p, hp, q) = O.after i (get_or def s 0) h (ap (λ (x : ℕ). default_from_of (get_or def x 0)) (sym w) ∙ from_some (get_or def s 0) e) in
         subst (λ (x : ℕ). Within (list_view t def) i x (get_or classes j 0) (get_or hop (8 * x + j) 0)) q (H.rows p hp j l)
 
     -- So one more hop fits.
     pub row_fits : ¬ (get_or def s 0 ≡ 65535) → (j : ℕ) → j < 8 → get_or hop (8 * get_or def s 0 + j) 0 < 512
-    row_fits e j l = omega (arith, (row-default e j l).near, O.states_are, O.accepted.few_states)
+    row_fits e j l = omega (arith, (row-default e j l).near, T.states_are, T.few_states)
 
     -- One state more.
     pub hopping_more : {hop' : List ℕ} → s < n → Put hop hop' (8 * s) (row_number t s (get_or def s 0) classes hop) 8 → Hopping t def order n classes (i + 1) hop'
@@ -64,7 +64,7 @@ module _ {t def order : List ℕ} {n k c : ℕ} (classes : List ℕ) (O : Ordere
         record { within = omega arith; long = P.long ∙ H.long; rows = λ p l. row p l (ℕ_discrete p i) }
       where
         below : (j : ℕ) → j < 8 → get_or classes j 0 < table.classes t
-        below j l = omega (arith, (eight_class classes E hc j l).0, O.classes_are)
+        below j l = omega (arith, (eight_class classes E hc j l).0, T.classes_are)
 
         here : (j : ℕ) → j < 8 → Within (list_view t def) (i + 1) s (get_or classes j 0) (row_number t s (get_or def s 0) classes hop j)
         here j l = go (ℕ_discrete (get_or def s 0) 65535)
@@ -84,7 +84,7 @@ module _ {t def order : List ℕ} {n k c : ℕ} (classes : List ℕ) (O : Ordere
         row p l (yes e) j u = rw (e, ← w, P.put j u) (here j u)
         row p l (no e) j u =
             let x = get_or order p 0 in
-            let other : ¬ (x ≡ s) = λ q. e (O.first.once p i (omega arith) h (q ∙ w)) in
+            let other : ¬ (x ≡ s) = λ q. e (O.once p i (omega arith) h (q ∙ w)) in
             rw (P.kept (8 * x + j) (outside x j u other)) (within_later (H.rows p (omega arith) j u))
 
   -- At the end the largest of all cells is that of the hops for the eight classes.
@@ -93,8 +93,8 @@ module _ {t def order : List ℕ} {n k c : ℕ} (classes : List ℕ) (O : Ordere
     where
       cell : (s j : ℕ) → s < n → j < 8 → (look (list_view t def) s (get_or classes j 0)).hops ≡ get_or hop (8 * s + j) 0
       cell s j hs hj =
-          let (p, hp, e) = O.first.stands s hs in
-          within_look (omega (arith, H.within, O.states_are)) (subst (λ (x : ℕ). Within (list_view t def) i x (get_or classes j 0) (get_or hop (8 * x + j) 0)) e (H.rows p (omega arith) j hj))
+          let (p, hp, e) = O.stands s hs in
+          within_look (omega (arith, H.within, T.states_are)) (subst (λ (x : ℕ). Within (list_view t def) i x (get_or classes j 0) (get_or hop (8 * x + j) 0)) e (H.rows p (omega arith) j hj))
 
       over : (s x : ℕ) → s < n → x < k → c ≤ x → x < c + 8 → 0 + (look (list_view t def) s x).hops ≤ largest (8 * n) (λ x. get_or hop x 0)
       over s x hs hx l u =

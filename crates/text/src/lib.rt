@@ -1,71 +1,102 @@
-// Text put into lent bytes: pieces, numbers in decimal, lines of numbers, and the lines of an input that is refused. Each function answers the place behind what it put.
+// Text in fixed memory: pieces, numbers in decimal, lines of numbers, and the lines of an input that is refused, each put behind what stands there.
 #![tactic(auto)]
 
-ghost use Rattle.std.specs.Prelude.{[], ◌∷◌, ◌<◌, length};
+ghost use Rattle.std.specs.Prelude.{◌≡◌, List, ℕ, [], ◌∷◌, ◌++◌, ◌+◌, ◌≤◌, ◌<◌, length, take};
 ghost use Rattle.paper.specs.Text.{decimal, line, refused_line, too_long_line};
-ghost use Rattle.text.specs.Puts.{Holds, Puts};
 
-// Puts a piece of text.
-pub fn put(out: &mut [u8], at: usize, piece: &[u8]) -> usize
-    requires { Holds out.old at piece.now }
-    ensures { Puts out.old at piece.now out.new result }
-{
-    words::copy(piece, 0, piece.len(), out, at);
-    at + piece.len()
+use std::marker::Model;
+
+// A text of at most N bytes.
+#[derive(Drop)]
+pub struct Text<const N: usize> {
+    bytes: [u8; N],
+    size: usize,
 }
 
-// Puts a number in decimal.
-pub fn put_number(out: &mut [u8], at: usize, number: u32) -> usize
-    requires { Holds out.old at (decimal number) }
-    ensures { Puts out.old at (decimal number) out.new result }
-{
-    let mut digits = [0u8; 20];
-    let count = io::decimal(number as u64, &mut digits);
-    put(out, at, &digits[..count])
+impl<const N: usize> Model for Text<N> {
+    ghost Value = { List ℕ };
+
+    ghost view = { λ t. take t.size t.bytes };
+
+    ghost invariant = { λ t. t.size ≤ length t.bytes };
 }
 
-// Puts a space and a number.
-fn put_next(out: &mut [u8], at: usize, number: u32) -> usize
-    requires { Holds out.old at (32 ∷ decimal number) }
-    ensures { Puts out.old at (32 ∷ decimal number) out.new result }
-{
-    let here = put(out, at, b" ");
-    put_number(out, here, number)
-}
-
-// Puts a line's end.
-fn put_end(out: &mut [u8], at: usize) -> usize
-    requires { Holds out.old at (10 ∷ []) }
-    ensures { Puts out.old at (10 ∷ []) out.new result }
-{
-    put(out, at, b"\n")
-}
-
-// Puts a line of numbers, one at least, one space apart.
-pub fn put_line(out: &mut [u8], at: usize, numbers: &[u32]) -> usize
-    requires { (0 < length numbers.now) × Holds out.old at (line numbers.now) }
-    ensures { Puts out.old at (line numbers.now) out.new result }
-{
-    let mut here = put_number(out, at, numbers[0]);
-    for i in 1..numbers.len() {
-        here = put_next(out, here, numbers[i]);
+impl<const N: usize> Text<N> {
+    // No text yet.
+    pub fn new() -> Self
+        ensures { result ≡ [] }
+    {
+        Text {
+            bytes: [0; N],
+            size: 0,
+        }
     }
-    put_end(out, here)
-}
 
-// Puts that an input is refused, and the number.
-pub fn put_refused(out: &mut [u8], at: usize, number: u32) -> usize
-    requires { Holds out.old at (refused_line number) }
-    ensures { Puts out.old at (refused_line number) out.new result }
-{
-    let here = put(out, at, b"refused ");
-    put_line(out, here, &[number])
-}
+    // The bytes of the text.
+    pub fn as_slice(&self) -> &[u8]
+        ensures { result.now ≡ self.now }
+    {
+        let bytes = &self.bytes[..];
+        &bytes[..self.size]
+    }
 
-// Puts that an input is too long.
-pub fn put_too_long(out: &mut [u8], at: usize) -> usize
-    requires { Holds out.old at too_long_line }
-    ensures { Puts out.old at too_long_line out.new result }
-{
-    put(out, at, b"too long\n")
+    // Puts a piece of text.
+    pub fn put(&mut self, piece: &[u8])
+        requires { length self.old + length piece.now ≤ N }
+        ensures { self.new ≡ self.old ++ piece.now }
+    {
+        let start = self.size;
+        let end = start + piece.len();
+        let bytes = &mut self.bytes[..];
+        bytes[start..end].copy_from_slice(piece);
+        self.size = end;
+    }
+
+    // Puts a number in decimal.
+    pub fn put_number(&mut self, number: u32)
+        requires { length self.old + length (decimal number) ≤ N }
+        ensures { self.new ≡ self.old ++ decimal number }
+    {
+        let mut digits = [0u8; 20];
+        let count = io::decimal(number as u64, &mut digits);
+        self.put(&digits[..count]);
+    }
+
+    // Puts a space and a number.
+    fn put_next(&mut self, number: u32)
+        requires { length self.old + length (32 ∷ decimal number) ≤ N }
+        ensures { self.new ≡ self.old ++ (32 ∷ decimal number) }
+    {
+        self.put(b" ");
+        self.put_number(number);
+    }
+
+    // Puts a line of numbers, one at least, one space apart.
+    pub fn put_line(&mut self, numbers: &[u32])
+        requires { (0 < length numbers.now) × (length self.old + length (line numbers.now) ≤ N) }
+        ensures { self.new ≡ self.old ++ line numbers.now }
+    {
+        self.put_number(numbers[0]);
+        for i in 1..numbers.len() {
+            self.put_next(numbers[i]);
+        }
+        self.put(b"\n");
+    }
+
+    // Puts that an input is refused, and the number.
+    pub fn put_refused(&mut self, number: u32)
+        requires { length self.old + length (refused_line number) ≤ N }
+        ensures { self.new ≡ self.old ++ refused_line number }
+    {
+        self.put(b"refused ");
+        self.put_line(&[number]);
+    }
+
+    // Puts that an input is too long.
+    pub fn put_too_long(&mut self)
+        requires { length self.old + length too_long_line ≤ N }
+        ensures { self.new ≡ self.old ++ too_long_line }
+    {
+        self.put(b"too long\n");
+    }
 }

@@ -4,18 +4,19 @@ use mathlib.Core.Bool.{Bool, true, false, ◌&&◌, ◌||◌}
 use mathlib.Core.List.{List}
 use Prim.Native.Nat.{ℕ, zero, suc, ◌+◌, ◌≤◌, ◌<◌}
 use native.Mathlib.Numerals.{add-one}
-use native.Mathlib.Decide.{ℕ_discrete, dec_lt}
+use native.Mathlib.Decide.{ℕ_discrete}
 use native.Mathlib.Omega.{arith}
-use lib.Dec.{ltb, eqb}
-use lib.ListN.{length, get_or, set, length-set}
+use lib.Dec.{eqb}
+use lib.ListN.{get_or, set, length-set}
 use lib.Seq.{get_or-set_same, get_or-set_other}
-use borrow.Author.Tests.{eq-eqb, ne_eqb, lt-ltb, le-ltb}
+use borrow.Author.Tests.{eq-eqb, ne_eqb}
 use Rattle.paper.specs.Below.{any}
 use Rattle.paper.specs.Table.{next}
 use Rattle.paper.specs.FallBack.{leads_to}
 use Rattle.paper.proofs.Below.{any_found, any_none}
-use Rattle.weights.specs.Next.{Next}
-use Rattle.weights.proofs.Next.{Passed}
+use Rattle.std.proofs.Common.{Option, Some, None, IfSome, unwrap_or}
+use Rattle.std.specs.Option.{is_some}
+use Rattle.weights.specs.Next.{Passed, Next}
 use Rattle.toward.specs.Marked.{level_in, marked, Marked, finds, has}
 
 -- A test that fails adds nothing.
@@ -62,10 +63,6 @@ module _ (a mark : ℕ) where
       go : Dec (a ≡ 65535) → a ≡ l
       go (yes w) = absurd (n (rw (eq-eqb a 65535 w) at e))
       go (no w) = sym (marked-kept true w) ∙ e
-
--- At first nothing is marked.
-pub marked_none : (old : List ℕ) (mark : ℕ) → length old ≡ 512 → Marked old old (λ x. false) mark
-marked_none old mark e = record { long = e; each_is = λ x. refl }
 
 -- The same marks by a test that says the same.
 marked_by : (old new : List ℕ) (p q : ℕ → Bool) (mark : ℕ) → ((x : ℕ) → p x ≡ q x) → Marked old new p mark → Marked old new q mark
@@ -146,10 +143,23 @@ round_passed t old cur level few s (suc r) l P M =
           rw (add-one r) at (round_miss t old cur level r few before (P r (omega arith) (omega arith)))
     ]
 
--- Some state has this level where the first that has it is below n.
-pub has_first : (levels : List ℕ) (level n r : ℕ) → Next n (level_in levels) 0 level r → ltb r n ≡ has levels level n
-has_first levels level n r N =
-    elim (dec_lt r n) [
-      | yes h ↦ lt-ltb r n h ∙ sym (any_found n r (λ s. eqb (level_in levels s) level) h (eq-eqb (level_in levels r) level (N.found h)))
-      | no h ↦ le-ltb r n (omega arith) ∙ sym (any_none n (λ s. eqb (level_in levels s) level) (λ s k. ne_eqb (level_in levels s) level (N.passed s (omega arith) (omega arith))))
-    ]
+-- So they are up to the next one of this level, or to the end where there is none.
+pub round_sought : (t old cur : List ℕ) (level n : ℕ) → level < 512 → (s : ℕ) (r : Option ℕ) → s ≤ n → Next n (level_in cur) s level r
+    → Marked old cur (finds t old level s) (level + 1) → Marked old cur (finds t old level (unwrap_or r n)) (level + 1)
+round_sought t old cur level n few s None l P M = round_passed t old cur level few s n l P M
+round_sought t old cur level n few s (Some v) l P M = round_passed t old cur level few s v P.0 P.3 M
+
+-- The next one is behind those passed.
+pub next_behind : (n : ℕ) (line : ℕ → ℕ) (from w : ℕ) (r : Option ℕ) → from ≤ n → Next n line from w r → from ≤ unwrap_or r n
+next_behind n line from w None l P = l
+next_behind n line from w (Some v) l P = P.0
+
+-- What is known of it, where there is one.
+pub next_place : (n : ℕ) (line : ℕ → ℕ) (from w : ℕ) (r : Option ℕ) → Next n line from w r → IfSome r (λ v. (v < n) × (line v ≡ w))
+next_place n line from w None P = tt
+next_place n line from w (Some v) P = (P.1, P.2)
+
+-- Some state has this level where there is a first that has it.
+pub has_first : (levels : List ℕ) (level n : ℕ) (r : Option ℕ) → Next n (level_in levels) 0 level r → is_some r ≡ has levels level n
+has_first levels level n None P = sym (any_none n (λ s. eqb (level_in levels s) level) (λ s k. ne_eqb (level_in levels s) level (P s (omega arith) k)))
+has_first levels level n (Some r) P = sym (any_found n r (λ s. eqb (level_in levels s) level) P.1 (eq-eqb (level_in levels r) level P.2))

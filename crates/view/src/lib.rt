@@ -9,7 +9,7 @@ ghost use Rattle.image.specs.Laid.{Laid};
 ghost use Rattle.view.specs.Opened.{counts_in_front, Opened};
 
 // The counts of an image: n states, k classes and m entries.
-#[derive(Drop)]
+#[derive(Clone, Copy)]
 pub struct Counts {
     pub n: u16,
     pub k: u16,
@@ -17,7 +17,7 @@ pub struct Counts {
 }
 
 // An image as its bytes with its counts.
-#[derive(Drop)]
+#[derive(Clone, Copy)]
 pub struct View<'a> {
     pub bytes: &'a [u8],
     pub n: u16,
@@ -34,7 +34,7 @@ pub fn counted(image: &[u8]) -> Counts
     let n = word % 32768;
     let k = words::get16(image, 2);
     let m = words::get32(image, 8);
-    Counts { n: n, k: k, m: m }
+    Counts { n, k, m }
 }
 
 // Opens an image.
@@ -42,22 +42,13 @@ pub fn open<'a>(image: &'a [u8]) -> View<'a>
     requires { 11 < length image.now }
     ensures { (result.bytes ≡ image.entry) × ((result.n ≡ (counts_in_front image.now).n) × ((result.k ≡ (counts_in_front image.now).k) × (result.m ≡ (counts_in_front image.now).m))) }
 {
-    let counts = counted(image);
+    let Counts { n, k, m } = counted(image);
     View {
         bytes: image,
-        n: counts.n,
-        k: counts.k,
-        m: counts.m,
+        n,
+        k,
+        m,
     }
-}
-
-// The record of a state, for the counts of the image.
-fn record_in(image: &[u8], n: u16, m: u32, state: u16) -> image::Record
-    requires { Opened image.now n m × (state < n) }
-    ensures { result ≡ record_at_of image.now (records_at_of image.now + 4 * state) }
-{
-    let records = image::records_at(image, n as usize, m as usize);
-    image::record_at(image, records + 4 * (state as usize))
 }
 
 // The record of a state in an image that is opened.
@@ -65,7 +56,9 @@ pub fn record_of<'a>(v: View<'a>, state: u16) -> image::Record
     requires { Opened v.bytes.now v.n v.m × (state < v.n) }
     ensures { result ≡ record_at_of v.entry.bytes.now (records_at_of v.entry.bytes.now + 4 * state) }
 {
-    record_in(v.bytes, v.n, v.m, state)
+    let image = v.bytes;
+    let records = image::records_at(image, v.n as usize, v.m as usize);
+    image::record_at(image, records + 4 * (state as usize))
 }
 
 // The same for a caller that holds no view: the image is opened, and the view is read.
@@ -76,18 +69,10 @@ pub fn record_from(image: &[u8], state: u16) -> image::Record
     record_of(open(image), state)
 }
 
-// The number that stands for a state's labels: in edition 1 its label, in edition 2 how many it has.
-fn label_in(image: &[u8], state: u16) -> u16
-    requires { Laid image.now × (state < states image.now) }
-    ensures { result ≡ number16 image.now (268 + 2 * state) }
-{
-    words::get16(image, 268 + 2 * (state as usize))
-}
-
-// That number in an image that is opened.
+// The number that stands for a state's labels in an image that is opened: in edition 1 its label, in edition 2 how many it has.
 pub fn label_of<'a>(v: View<'a>, state: u16) -> u16
     requires { Opened v.bytes.now v.n v.m × (state < v.n) }
     ensures { result ≡ number16 v.entry.bytes.now (268 + 2 * state) }
 {
-    label_in(v.bytes, state)
+    words::get16(v.bytes, 268 + 2 * (state as usize))
 }

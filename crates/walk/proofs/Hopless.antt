@@ -9,7 +9,7 @@ use Rattle.paper.specs.Refusals.{first}
 use Rattle.paper.specs.Scan.{Run, begun, walk_of}
 use Rattle.paper.specs.Operations.{scanning, walk_grounds, walk}
 use Rattle.running.proofs.Bytewise.{next, fits}
-use Rattle.running.proofs.Rules.{table_rules, going}
+use Rattle.running.specs.Rules.{table_rules, going}
 
 module _ (t : List ℕ) (most : ℕ) where
   -- One byte more.

@@ -9,12 +9,30 @@ use Rattle.paper.specs.Table.{states, table_grounds}
 use Rattle.paper.specs.Scan.{walk_of}
 use Rattle.paper.specs.Operations.{judge_table_of, walk_grounds, scanning, walk}
 use Rattle.paper.proofs.Refusals.{numbered}
-use Rattle.running.proofs.Verdict.{later_none, verdict_judged, outcome_done}
+use Rattle.paper.specs.Promises.{IsScanned}
+use Rattle.answers.specs.Numbers.{number_of}
+use Rattle.answers.specs.declared.Refusal.{Refusal}
+use Rattle.running.proofs.Verdict.{later, later_none, verdict_judged, refused_first, refused_later, outcome_done, outcome_ran}
 
 -- No ground of a table has the number 0.
 pub table_numbered : (t : List ℕ) → numbered (table_grounds t) ≡ true
 unfolding table_grounds
 table_numbered t = refl
+
+-- The table is refused.
+pub walk_refused : (t : List ℕ) (s : ℕ) (payload room : List ℕ) (e : Refusal) → number_of e ≡ judge_table_of t → IsScanned (walk t s payload room) (number_of e) 0 0 0 0 room
+unfolding walk walk_grounds judge_table_of
+walk_refused t s payload room e q = refused_first (table_grounds t) (table_numbered t) (states t) s payload (walk_of t s payload (length room)) room e q
+
+-- It is accepted, and 14 or 15 applies.
+pub walk_refused_later : (t : List ℕ) (s : ℕ) (payload room : List ℕ) (e : Refusal) → 0 ≡ judge_table_of t → number_of e ≡ later (states t) s payload → IsScanned (walk t s payload room) (number_of e) 0 0 0 0 room
+unfolding walk walk_grounds judge_table_of
+walk_refused_later t s payload room e z q = refused_later (table_grounds t) (table_numbered t) (states t) s payload (walk_of t s payload (length room)) room e z q
+
+-- Neither applies.
+pub walk_ran : (t : List ℕ) (s : ℕ) (payload room : List ℕ) → 0 ≡ judge_table_of t → 0 ≡ later (states t) s payload → walk t s payload room ≡ scanning 0 (walk_of t s payload (length room)) room
+unfolding walk walk_grounds judge_table_of
+walk_ran t s payload room z q = outcome_ran (table_grounds t) (table_numbered t) (states t) s payload (walk_of t s payload (length room)) room z q
 
 -- Where no ground applies walk answers the walk's numbers and leaves its reports in the room.
 pub walk_done : (t : List ℕ) (s : ℕ) (payload room : List ℕ) → first (walk_grounds t s payload) ≡ 0

@@ -6,7 +6,7 @@ use Prim.Native.Nat.{ℕ, ◌+◌, ◌≤◌, ◌<◌}
 use native.Mathlib.Numerals.{add-one}
 use native.Mathlib.Omega.{arith}
 use lib.Dec.{ltb, eqb}
-use lib.ListN.{length, get_or}
+use lib.ListN.{length}
 use borrow.Author.Tests.{lt-ltb, eq-eqb, ne_eqb}
 use Rattle.paper.specs.Below.{any, how_many_of, differ, outside}
 use Rattle.paper.specs.Words.{number16}
@@ -14,9 +14,8 @@ use Rattle.paper.specs.Strings.{count, string_at, size, label, string, list_bad_
 use Rattle.paper.proofs.Below.{any_more}
 use Rattle.paper.proofs.Tests.{or_neither, within_outside}
 use Rattle.strings.proofs.Places.{place_next}
-use Rattle.strings.proofs.Shape.{Starts, size_bad, shape_end}
-use Rattle.strings.proofs.Parts.{part}
-use Rattle.strings.proofs.Strings.{size_read, string_part}
+use Rattle.strings.proofs.Shape.{size_bad, shape_end}
+use Rattle.strings.proofs.Strings.{size_read}
 use Rattle.strings.proofs.TooMany.{crowded, too_many_strings}
 
 -- A number below a range is outside it,
@@ -66,22 +65,9 @@ module _ (b : List ℕ) (i l : ℕ) (e : l ≡ label b i) where
   label_good z q =
       or_neither (eqb (label b i) 0) (any i (λ j. eqb (label b j) (label b i))) (ne_eqb (label b i) 0 (λ w. z (e ∙ w))) (ap (λ (x : ℕ). any i (λ j. eqb (label b j) x)) (sym e) ∙ q)
 
--- One test more that passes,
-pub count_passes : (i m : ℕ) (p : ℕ → Bool) → m ≡ how_many_of i p → p i ≡ true → m + 1 ≡ how_many_of (i + 1) p
-count_passes i m p e q = rw (add-one i, e, q) refl
-
--- and one that does not.
-pub count_fails : (i m : ℕ) (p : ℕ → Bool) → m ≡ how_many_of i p → p i ≡ false → m ≡ how_many_of (i + 1) p
-count_fails i m p e q = rw (add-one i, q) (omega arith)
-
 -- The string is ended by more than 16 strings.
 abbrev pub crowded_at : List ℕ → ℕ → Bool
 crowded_at b i = ltb 16 (how_many_of (count b) (λ q. ends (string b q) (string b i)))
-
--- Found by its place and length.
-pub crowded_found : (b starts : List ℕ) (n : ℕ) (S : Starts b starts n) (i : ℕ) (h : i < n) (x : ℕ) → x ≡ size b i
-    → ltb 16 (how_many_of n (λ q. ends (string b q) (part b (get_or starts i 0 + 4) x))) ≡ crowded_at b i
-crowded_found b starts n S i h x e = rw (← string_part b starts n S i h x e, S.counted) refl
 
 -- Over all strings it is ground 19.
 pub crowded_all : (b : List ℕ) → any (count b) (crowded_at b) ≡ too_many_labels (rules b)

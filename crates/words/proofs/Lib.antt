@@ -1,5 +1,6 @@
 pub mod Placed
 pub mod Put
+pub mod Front
 pub mod Behind
 pub mod Laid
 pub mod Written

@@ -51,8 +51,7 @@ returns-then-kept-t c =
     let p = c.requires in (
       c.loop-c.invariant.overlaid.to_long,
       c.loop-c.invariant.overlaid.hop_long,
-      λ _. laying_found p.0 c.loop-c.invariant c.loop-c-test.true p.2 _ _ c.get16-t.ensures refl c.if-kept-t.true,
-      λ e. absurd (true≢false e),
+      laying_found p.0 c.loop-c.invariant c.loop-c-test.true p.2 _ _ c.get16-t.ensures refl c.if-kept-t.true,
     )
 
 pub offset_bounds-to-cell-in-loop-c : goal.offset_bounds-to-cell-in-loop-c
@@ -92,6 +91,5 @@ returns c =
     let p = c.requires in (
       c.loop-c.invariant.overlaid.to_long,
       c.loop-c.invariant.overlaid.hop_long,
-      λ e. absurd (true≢false (sym e)),
-      λ _. (c.loop-c.invariant.count, laying_done p.0 c.loop-c.invariant p.2 c.loop-c-test.false),
+      (c.loop-c.invariant.count, laying_done p.0 c.loop-c.invariant p.2 c.loop-c-test.false),
     )

@@ -1,79 +1,81 @@
-use Prim.Native.Nat.{ℕ, ◌≤◌, ◌<◌}
-use mathlib.Core.Path.{◌≡◌}
-use native.Mathlib.Omega.{arith}
+use Rattle.std.proofs.Common.{◌≡◌, false, sym, ◌∙◌, ℕ, ◌+◌, ◌≤◌, ◌<◌, get_or, arith}
 use native.Mathlib.Decide.{ℕ_discrete}
-use lib.ListN.{get_or}
+use borrow.Author.Tests.{lt-ltb}
 use Rattle.weights.specs.Weighed.{weight_in}
+use Rattle.weights.specs.Next.{Passed}
 use Rattle.pairs.specs.Keys.{fits_in, key_in}
+use Rattle.pairs.specs.Tie.{order_number}
 use Rattle.pairs.proofs.Keys.{key_small}
-use Rattle.pairs.proofs.Taken.{taken_short, taken_full, taken_other}
-use Rattle.best.proofs.Picked.{picked_starts, picked_full, picked_passed, picked_unfit, picked_worse, picked_better}
+use Rattle.pairs.proofs.Taken.{taken_short, taken_other}
+use Rattle.best.specs.Picked.{key_found, found_of}
+use Rattle.best.proofs.Picked.{found_key, picked_passed, picked_unfit, picked_worse, picked_better}
 use Rattle.best.proofs.best_in_row.Goals as goal
-use Rattle.best.proofs.best_in_row.Goals.{else-takes, then-takes+else-key-best, then-takes+then-key-best}
+use Rattle.best.proofs.best_in_row.Goals.{Else-weights-u, then-takes+then-key-best, then-takes+else-key-best, else-takes}
 
-pub returns-then-bound-du : goal.returns-then-bound-du
-returns-then-bound-du c =
+-- A pair of another weight up to the next one of this weight does not fit.
+other : (c : Else-weights-u) (h : ℕ) → Passed (weight_in c.args.weights.now c.args.u) (c.loop-v.v + 1) c.args.w h
+    → (y : ℕ) → c.loop-v.v ≤ y → y < h → fits_in c.args.weights.now c.args.w c.args.d.now c.args.tree.now c.args.bound c.args.u y ≡ false
+other c h P y from to =
     let a = c.args in
+    let row = weight_in a.weights.now a.u in
     let far : ℕ → ℕ = λ x. get_or a.d.now x 0 in
-    picked_full a.n (fits_in a.weights.now a.w a.d.now a.tree.now a.bound) (key_in a.order a.d.now a.long.now) a.u 0 0
-    (λ y. taken_full (weight_in a.weights.now a.u y) a.w (get_or a.tree.now a.u 0) (get_or a.tree.now y 0) (far a.u) (far y) a.bound c.if-bound-du.true)
-
-pub loop-v-init : goal.loop-v-init
-loop-v-init c =
-    let a = c.args in (
-      omega arith,
-      omega arith,
-      picked_starts a.n (fits_in a.weights.now a.w a.d.now a.tree.now a.bound) (key_in a.order a.d.now a.long.now) a.u 0 0,
-    )
+    let not_this : ¬ (row y ≡ a.w) = elim (ℕ_discrete y c.loop-v.v) [ yes q ↦ λ e. c.if-weights-u.false (rw q at e) | no q ↦ P y (omega arith) to ] in
+    taken_other (row y) a.w (get_or a.tree.now a.u 0) (get_or a.tree.now y 0) (far a.u) (far y) a.bound not_this
 
 pub loop-v-preserved-then-weights-u : goal.loop-v-preserved-then-weights-u
 loop-v-preserved-then-weights-u c =
-    let l = c.loop-v in
     let a = c.args in
+    let l = c.loop-v in
+    let i = l.invariant in
+    let order = order_number a.tie in
     let fits = fits_in a.weights.now a.w a.d.now a.tree.now a.bound in
-    let key = key_in a.order a.d.now a.long.now in
+    let key = key_in order a.d.now a.long.now in
     let far : ℕ → ℕ = λ x. get_or a.d.now x 0 in
-    let t = c.takes in
-    let asked : t.result ≡ fits a.u l.v = rw c.if-weights-u.true t.ensures in (
-      omega (arith, l.invariant.0),
-      omega (arith, c.loop-v-test.true),
-      elim c.if-takes.branch [
-        | then-takes+then-key-best w ↦ rw w.best-is (picked_better a.n fits key a.u l.v l.best.key l.best.u l.best.v l.invariant.2
-            l.invariant.0 c.loop-v-test.true t.result asked w.if-takes.true w.key_of-key.result w.key_of-key.ensures w.if-key-best.true)
+    let best = found_of l.best in
+    let own : key_found best ≡ l.best.key = found_key l.best i.few in
+    let asked : c.takes.result ≡ fits a.u l.v = rw c.if-weights-u.true c.takes.ensures in
+    record {
+      after = omega arith;
+      within = omega arith;
+      few = elim c.if-takes.branch [
+        | then-takes+then-key-best w ↦ rw w.best-is (omega arith)
+        | then-takes+else-key-best w ↦ rw w.best-is i.few
+        | else-takes w ↦ rw w.best-is i.few
+      ];
+      picked = elim c.if-takes.branch [
+        | then-takes+then-key-best w ↦
+            let small : w.key_of-key.result < 65536 = omega arith in
+            rw (w.best-is, lt-ltb w.key_of-key.result 65536 small)
+            (picked_better a.n fits key a.u l.v best i.picked i.after c.loop-v-test.true (sym asked ∙ w.if-takes.true) _ w.key_of-key.ensures (omega arith))
         | then-takes+else-key-best w ↦
-            let short = taken_short a.w a.w (get_or a.tree.now a.u 0) (get_or a.tree.now l.v 0)
-            (far a.u) (far l.v) a.bound t.result t.ensures w.if-takes.true in
-            let most = key_small a.order (far a.u) (far l.v) (get_or a.long.now a.u 0) (get_or a.long.now l.v 0) in
-            rw w.best-is (picked_worse a.n fits key a.u l.v l.best.key l.best.u l.best.v l.invariant.2
-            w.key_of-key.result w.key_of-key.ensures (omega (arith, most, short, w.key_of-key.ensures, c.ranges.bound)) w.if-key-best.false)
-        | else-takes w ↦ rw w.best-is (picked_unfit a.n fits key a.u l.v l.best.key l.best.u l.best.v l.invariant.2 t.result asked w.if-takes.false)
-      ],
-    )
-
-pub next_of-v-requires : goal.next_of-v-requires
-next_of-v-requires c =
-    (c.requires.0, omega (arith, c.requires.0, c.requires.1), omega (arith, c.loop-v-test.true))
-
-pub loop-v-smaller : goal.loop-v-smaller
-loop-v-smaller c = omega (arith, c.next_of-v.ensures.behind, c.loop-v-test.true)
+            let short = taken_short a.w a.w (get_or a.tree.now a.u 0) (get_or a.tree.now l.v 0) (far a.u) (far l.v) a.bound c.takes.result c.takes.ensures w.if-takes.true in
+            let most = key_small order (far a.u) (far l.v) (get_or a.long.now a.u 0) (get_or a.long.now l.v 0) in
+            rw w.best-is (picked_worse a.n fits key a.u l.v best i.picked _ w.key_of-key.ensures (omega (arith, most, short)) (omega arith))
+        | else-takes w ↦ rw w.best-is (picked_unfit a.n fits key a.u l.v best i.picked (sym asked ∙ w.if-takes.false))
+      ];
+    }
 
 pub loop-v-preserved : goal.loop-v-preserved
 loop-v-preserved c =
-    let l = c.loop-v in
     let a = c.args in
-    let found = c.next_of-v.ensures in
-    let far : ℕ → ℕ = λ x. get_or a.d.now x 0 in
-    let row = weight_in a.weights.now a.u in
-    let other : (y : ℕ) → l.v ≤ y → y < c.next_of-v.result → ¬ (row y ≡ a.w) = λ y from to.
-    elim (ℕ_discrete y l.v) [ yes q ↦ λ e. c.if-weights-u.false (rw q at e) | no q ↦ found.passed y (omega arith) to ] in (
-      omega (arith, l.invariant.0, found.behind),
-      found.within,
-      picked_passed a.n (fits_in a.weights.now a.w a.d.now a.tree.now a.bound) (key_in a.order a.d.now a.long.now) a.u
-          l.v l.best.key l.best.u l.best.v l.invariant.2 c.next_of-v.result (omega (arith, found.behind))
-          (λ y from to. taken_other (row y) a.w (get_or a.tree.now a.u 0) (get_or a.tree.now y 0) (far a.u) (far y) a.bound (other y from to)),
-    )
+    let l = c.loop-v in
+    let i = l.invariant in
+    let found = rw c.in-Some.is at c.next_of.ensures in
+    record {
+      after = omega (arith, found.0);
+      within = omega (arith, found.1);
+      few = i.few;
+      picked = picked_passed a.n (fits_in a.weights.now a.w a.d.now a.tree.now a.bound) (key_in (order_number a.tie) a.d.now a.long.now) a.u l.v (found_of l.best) i.picked
+          c.in-Some.next (omega (arith, found.0)) (other (goal.at.loop-v-preserved c).Else-weights-u c.in-Some.next found.3);
+    }
 
-pub returns : goal.returns
-returns c =
-    let e : c.loop-v.v ≡ c.args.n = omega arith in
-    rw e at c.loop-v.invariant.2
+pub returns-in_default : goal.returns-in_default
+returns-in_default c =
+    let a = c.args in
+    let l = c.loop-v in
+    let i = l.invariant in
+    let none = rw c.in_default.is at c.next_of.ensures in (
+      i.few,
+      picked_passed a.n (fits_in a.weights.now a.w a.d.now a.tree.now a.bound) (key_in (order_number a.tie) a.d.now a.long.now) a.u l.v (found_of l.best) i.picked
+          a.n i.within (other (goal.at.returns-in_default c).Else-weights-u a.n none),
+    )

@@ -1,6 +1,6 @@
 -- The look-up at a state meets its contract.
 use Prim.Native.Nat.{ℕ}
-use mathlib.Core.Path.{ap}
+use mathlib.Core.Path.{refl}
 use native.Mathlib.Omega.{arith}
 use lib.ListN.{get_or}
 use Rattle.chains.proofs.Sweeps.{reckoned_own, reckoned_on}
@@ -23,10 +23,9 @@ bounds-hop-d c = omega (arith, (c.requires.1 c.if-t.false).0)
 
 pub overflow_add-hops : goal.overflow_add-hops
 overflow_add-hops c =
-    let e = c.wide-d.ensures in
-    omega (arith, (c.requires.1 c.if-t.false).1, ap (λ (d : ℕ). get_or c.args.hop.now d 0) e)
+    omega (arith, (c.requires.1 c.if-t.false).1)
 
 pub returns : goal.returns
 returns c =
     let h = c.if-t.false in
-    reckoned_on _ _ _ c.args.to.now c.args.hop.now h (c.requires.1 h).0 c.wide-d.ensures
+    reckoned_on _ _ _ c.args.to.now c.args.hop.now h (c.requires.1 h).0 refl

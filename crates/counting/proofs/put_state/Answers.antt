@@ -1,29 +1,25 @@
 -- Three numbers of 32 bits at most take eleven bytes each.
-use mathlib.Core.Path.{◌≡◌, refl, ap₂}
-use mathlib.Core.List.{[], ◌∷◌}
-use Prim.Native.Nat.{ℕ, ◌≤◌}
-use native.Mathlib.Omega.{arith}
-use lib.ListN.{length}
+use Rattle.std.proofs.Common.{◌≤◌, ◌<◌, [], ◌∷◌, ℕ, length, get_or, refl, ap, length-append, arith, rules}
 use Rattle.paper.specs.Text.{line}
 use Rattle.text.proofs.Line.{line-length}
-use Rattle.counting.specs.Columns.{columns_line}
 use Rattle.counting.proofs.put_state.Goals as goal
-use Rattle.counting.proofs.put_state.Goals.{After-count_of-2}
+use Rattle.counting.proofs.put_state.Goals.{Start}
 
 -- The line takes 33 bytes at most.
-short : (c : After-count_of-2) → length (line (c.args.s ∷ c.count_of.result ∷ c.count_of-2.result ∷ [])) ≤ 33
-short c =
-    line-length c.args.s (c.count_of.result ∷ c.count_of-2.result ∷ [])
-    (omega arith, (omega arith, (omega arith, refl)))
-
--- It is the line of what the columns count.
-same : (c : After-count_of-2) →
-    line (c.args.s ∷ c.count_of.result ∷ c.count_of-2.result ∷ []) ≡ columns_line c.args.served.now c.args.ran.now c.args.s
-same c = ap₂ (λ (x y : ℕ). line (c.args.s ∷ x ∷ y ∷ [])) c.count_of.ensures c.count_of-2.ensures
+short : (s x y : ℕ) → s < 4294967296 → x < 4294967296 → y < 4294967296 → length (line (s ∷ x ∷ y ∷ [])) ≤ 33
+short s x y hs hx hy = line-length s (x ∷ y ∷ []) (hs, (hx, (hy, refl)))
 
 pub put_line-requires : goal.put_line-requires
-put_line-requires c = (omega arith, omega (arith, short (goal.at.put_line-requires c).After-count_of-2))
+put_line-requires g c =
+    let a = c.args in
+    (search rules, (omega arith, omega (arith, short a.s (get_or a.served.now a.s 0) (get_or a.ran.now a.s 0) (omega arith) (c.fits-served a.s) (c.fits-ran a.s), c.requires.1)))
 
-pub returns : goal.returns
-returns c =
-    (rw (same (goal.at.returns c).After-count_of-2) at c.put_line.ensures, omega (arith, c.put_line.ensures.ends, short (goal.at.returns c).After-count_of-2))
+pub returns-clause-short : goal.returns-clause-short
+returns-clause-short g c =
+    let a = c.args in
+    omega (
+      arith,
+      ap (length {A = ℕ}) c.put_line.ensures,
+      length-append a.text.now (line (a.s ∷ get_or a.served.now a.s 0 ∷ get_or a.ran.now a.s 0 ∷ [])),
+      short a.s (get_or a.served.now a.s 0) (get_or a.ran.now a.s 0) (omega arith) (c.fits-served a.s) (c.fits-ran a.s),
+    )

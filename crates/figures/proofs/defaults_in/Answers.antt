@@ -15,13 +15,13 @@ inside c = omega (arith, c.loop-s-test.true, c.requires.1)
 
 -- The state counts one at most.
 one_more : (c : After-falls-count) → c.falls-count.result ≤ 1
-one_more c = omega (arith, c.falls-count.ensures, bit_le (given (default_of c.record_from-record.result.fallback)))
+one_more c = omega (arith, c.falls-count.ensures, bit_le (given (default_of c.record_from.result.fallback)))
 
 pub loop-s-init : goal.loop-s-init
 loop-s-init c = (omega arith, refl, omega arith)
 
-pub record_from-record-requires : goal.record_from-record-requires
-record_from-record-requires c = (c.requires.0, inside (goal.at.record_from-record-requires c).In-loop-s)
+pub record_from-requires : goal.record_from-requires
+record_from-requires c = (c.requires.0, inside (goal.at.record_from-requires c).In-loop-s)
 
 pub overflow_add-count : goal.overflow_add-count
 overflow_add-count c = omega (arith, one_more (goal.at.overflow_add-count c).After-falls-count, c.loop-s.invariant.2, inside (goal.at.overflow_add-count c).In-loop-s, c.requires.0.few_states)
@@ -34,7 +34,7 @@ loop-s-smaller c = omega (arith, c.loop-s-test.true)
 
 pub loop-s-preserved : goal.loop-s-preserved
 loop-s-preserved c =
-    named_more c.args.image.now c.loop-s.s c.loop-s.count c.falls-count.result c.record_from-record.result c.loop-s.invariant (inside (goal.at.loop-s-preserved c).In-loop-s) c.record_from-record.ensures c.falls-count.ensures
+    named_more c.args.image.now c.loop-s.s c.loop-s.count c.falls-count.result c.record_from.result c.loop-s.invariant (inside (goal.at.loop-s-preserved c).In-loop-s) c.record_from.ensures c.falls-count.ensures
 
 pub returns : goal.returns
 returns c =

@@ -1,13 +1,8 @@
 -- The invariant of the loop: y stays its tree's root beside each of the states before z.
-use Prim.Native.Nat.{◌≤◌, ◌-◌}
-use mathlib.Core.Path.{◌≡◌}
-use mathlib.Core.Bool.{true}
+use Rattle.std.proofs.Common.{◌≡◌, true}
 use Rattle.paper.specs.Below.{every}
 use Rattle.forest.specs.Settled.{beside_root}
 use Rattle.forest.proofs.is_root.Given as goal
 
 abbrev pub invariant-loop-z : goal.invariant-loop-z
-invariant-loop-z l = (l.z ≤ l.n) × (every l.z (beside_root l.d l.tree l.near l.y) ≡ true)
-
-abbrev pub decreases-loop-z : goal.decreases-loop-z
-decreases-loop-z l = l.n - l.z
+invariant-loop-z l = every l.z (beside_root l.d l.tree l.near l.y) ≡ true

@@ -1,5 +1,5 @@
 -- The three arrays are those of single states.
-use lib.ListN.{get_or-replicate}
+use Rattle.std.proofs.lemmas.List.{get_or-replicate}
 use Rattle.forest.proofs.Single.{alone}
 use Rattle.forest.proofs.single_states.Goals as goal
 

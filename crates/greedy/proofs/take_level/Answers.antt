@@ -1,47 +1,13 @@
-use Prim.Native.Nat.{◌+◌, ◌<◌}
-use mathlib.Core.Path.{◌≡◌, sym, subst}
-use native.Mathlib.Omega.{arith}
-use borrow.Author.Rules.{rules}
-use lib.ListN.{get_or}
+use Rattle.std.proofs.Common.{◌≡◌, ◌+◌, sym, subst, get_or, arith, rules}
 use Rattle.paper.specs.Levels.{row}
 use Rattle.joining.specs.declared.Forest.{Forest}
 use Rattle.weights.specs.Weighed.{weight_in}
 use Rattle.pairs.specs.Taken.{is_taken}
 use Rattle.greedy.specs.Good.{Becomes}
 use Rattle.pairs.proofs.Taken.{taken_short}
-use Rattle.greedy.proofs.Rows.{rows_start, row_starts, row_dropped, row_added, row_passed, row_full, rows_more, rows_end}
+use Rattle.greedy.proofs.Rows.{rows_start, row_starts, row_dropped, row_added, row_sought, row_full, rows_more, rows_end, next_behind, next_place}
 use Rattle.greedy.proofs.take_level.Goals as goal
-use Rattle.greedy.proofs.take_level.Goals.{In-loop-u, In-loop-v, Joined-f-u, Joined-takes, else-f-u, else-takes, then-f-u+else-loop-v-test, then-takes}
-
--- A pair was tried, so there is one.
-tried : (c : Joined-takes) → c.loop-v.v < c.args.n
-tried c = c.loop-v-test.true
-
--- Whether it is added was asked for its own weight.
-asked : (c : Joined-takes)
-    → let a = c.args in
-    let l = c.loop-v in
-    let u = c.loop-u.u in
-    c.takes.result ≡ is_taken (weight_in a.weights.now u l.v) a.w (get_or l.f.tree u 0) (get_or l.f.tree l.v 0) (get_or l.f.d u 0) (get_or l.f.d l.v 0) a.bound
-asked c = rw (c.loop-v.invariant.3 (tried c)) c.takes.ensures
-
--- The pair that was tried is taken.
-turned : (c : Joined-takes)
-    → let a = c.args in
-    let outer = c.loop-u in
-    Becomes a.n a.bound (λ F. row a.n a.bound (weight_in a.weights.now) a.w outer.u F (c.loop-v.v + 1)) outer.f.d outer.f.parent outer.f.tree c.if-takes.f.d c.if-takes.f.parent c.if-takes.f.tree
-turned c =
-    let a = c.args in
-    let l = c.loop-v in
-    let u = c.loop-u.u in
-    let f = c.loop-u.f in
-    let held : Forest → Type 0 = λ (g : Forest). Becomes a.n a.bound (λ F. row a.n a.bound (weight_in a.weights.now) a.w u F (l.v + 1)) f.d f.parent f.tree g.d g.parent g.tree in
-    elim c.if-takes.branch [
-      | then-takes w ↦ subst held (sym w.f-is) (row_added a.n a.bound (weight_in a.weights.now) a.w u f.d f.parent f.tree l.f.d l.f.parent l.f.tree
-          l.v l.invariant.0 (tried c) l.invariant.2 _ (asked c) w.if-takes.true w.join-f.result.d w.join-f.result.parent w.join-f.result.tree w.join-f.ensures)
-      | else-takes w ↦ subst held (sym w.f-is) (row_dropped a.n a.bound (weight_in a.weights.now) a.w u f.d f.parent f.tree l.f.d l.f.parent l.f.tree
-          l.v l.invariant.0 (tried c) l.invariant.2 _ (asked c) w.if-takes.false)
-    ]
+use Rattle.greedy.proofs.take_level.Goals.{Joined-f-u, else-f-u, else-takes, then-f-u+in_default, then-takes}
 
 -- Where the ways meet the row is taken: it was full, or its pairs were tried one after the other.
 row_taken : (c : Joined-f-u)
@@ -51,78 +17,86 @@ row_taken : (c : Joined-f-u)
 row_taken c =
     let l = c.loop-u in
     let a = c.args in
-    let held : Forest → Type 0 = λ (g : Forest). Becomes a.n a.bound (λ F. row a.n a.bound (weight_in a.weights.now) a.w l.u F a.n) l.f.d l.f.parent l.f.tree g.d g.parent g.tree in
+    let weight = weight_in a.weights.now in
+    let held : Forest → Type 0 = λ (g : Forest). Becomes a.n a.bound (λ F. row a.n a.bound weight a.w l.u F a.n) l.f.d l.f.parent l.f.tree g.d g.parent g.tree in
     elim c.if-f-u.branch [
-      | then-f-u+else-loop-v-test w ↦ let e : w.loop-v.v ≡ a.n = omega (arith, w.loop-v.invariant.1, w.loop-v-test.false) in subst held (sym w.f-is) (rw e at w.loop-v.invariant.2)
-      | else-f-u w ↦ subst held (sym w.f-is) (row_full a.n a.bound (weight_in a.weights.now) a.w l.f.d l.f.parent l.f.tree l.invariant.1.whole l.u w.if-f-u.false)
+      | then-f-u+in_default w ↦ subst held (sym w.f-is) (rw w.in_default.is at w.loop-next.invariant.taken)
+      | else-f-u w ↦ subst held (sym w.f-is) (row_full a.n a.bound weight a.w l.f.d l.f.parent l.f.tree l.invariant.whole l.u w.if-f-u.false)
     ]
 
 pub loop-u-init : goal.loop-u-init
 loop-u-init c =
     let a = c.args in
-    (omega arith, rows_start a.n a.bound (weight_in a.weights.now) a.w a.f0.d a.f0.parent a.f0.tree (record { low = c.requires.1; long_far = search rules; long_tree = search rules }))
+    let f = a.f0 in
+    rows_start a.n a.bound (weight_in a.weights.now) a.w f.d f.parent f.tree (record { low = f.low; long_far = search rules; long_tree = search rules })
 
-pub next_of-v-requires : goal.next_of-v-requires
-next_of-v-requires c =
-    let few = c.requires.0 in
-    (few, omega (arith, c.loop-u-test.true, few), omega (arith, c.loop-u-test.true))
-
-pub loop-v-init : goal.loop-v-init
-loop-v-init c =
+pub loop-next-init : goal.loop-next-init
+loop-next-init c =
     let a = c.args in
     let l = c.loop-u in
-    let found = c.next_of-v.ensures in (
-      omega (arith, found.behind),
-      found.within,
-      row_passed a.n a.bound (weight_in a.weights.now) a.w l.u l.f.d l.f.parent l.f.tree l.f.d l.f.parent l.f.tree (l.u + 1) c.next_of-v.result found.behind found.passed
-          (row_starts a.n a.bound (weight_in a.weights.now) a.w l.f.d l.f.parent l.f.tree l.invariant.1.whole l.u),
-      found.found,
-    )
+    let f = l.f in
+    let weight = weight_in a.weights.now in
+    let found = c.next_of-next in
+    record {
+      place = next_place a.n (weight l.u) l.u (l.u + 1) a.w found.result (omega arith) found.ensures;
+      taken = row_sought a.n a.bound weight a.w l.u f.d f.parent f.tree f.d f.parent f.tree (l.u + 1) found.result (omega arith) found.ensures
+          (row_starts a.n a.bound weight a.w f.d f.parent f.tree l.invariant.whole l.u);
+    }
 
 pub join-f-requires : goal.join-f-requires
 join-f-requires c =
     let a = c.args in
-    let l = c.loop-v in
     let u = c.loop-u.u in
-    let short = taken_short a.w a.w (get_or l.f.tree u 0) (get_or l.f.tree l.v 0)
-    (get_or l.f.d u 0) (get_or l.f.d l.v 0) a.bound c.takes.result c.takes.ensures c.if-takes.true in
-    let ub : u < a.n = omega (arith, (goal.at.join-f-requires c).In-loop-u) in
-    let vb : l.v < a.n = omega (arith, (goal.at.join-f-requires c).In-loop-v) in
-    (c.requires.0, ub, vb, l.invariant.2.whole.low, omega (arith, short, c.ranges.bound))
+    let f = c.loop-next.f in
+    let v = c.in-Some.v in
+    let place = rw c.in-Some.is at c.loop-next.invariant.place in
+    let short = taken_short a.w a.w (get_or f.tree u 0) (get_or f.tree v 0) (get_or f.d u 0) (get_or f.d v 0) a.bound c.takes.result c.takes.ensures c.if-takes.true in
+    (c.requires, c.loop-u-test.true, place.1, omega (arith, short, c.ranges.bound))
 
-pub next_of-v-requires-in-loop-v : goal.next_of-v-requires-in-loop-v
-next_of-v-requires-in-loop-v c =
-    (c.requires.0, omega (arith, c.loop-u-test.true, c.requires.0), omega (arith, tried (goal.at.next_of-v-requires-in-loop-v c).Joined-takes))
-
-pub loop-v-smaller : goal.loop-v-smaller
-loop-v-smaller c = omega (arith, c.next_of-v-in-loop-v.ensures.behind, tried (goal.at.loop-v-smaller c).Joined-takes)
-
-pub loop-v-preserved : goal.loop-v-preserved
-loop-v-preserved c =
+pub loop-next-smaller : goal.loop-next-smaller
+loop-next-smaller c =
     let a = c.args in
-    let outer = c.loop-u in
+    let place = rw c.in-Some.is at c.loop-next.invariant.place in
+    let found = c.next_of-next-in-Some in
+    let behind = next_behind a.n (weight_in a.weights.now c.loop-u.u) (c.in-Some.v + 1) a.w found.result (omega (arith, place.1)) found.ensures in
+    rw c.in-Some.is (omega (arith, behind, place.1))
+
+pub loop-next-preserved : goal.loop-next-preserved
+loop-next-preserved c =
+    let a = c.args in
+    let weight = weight_in a.weights.now in
+    let u = c.loop-u.u in
+    let o = c.loop-u.f in
+    let f = c.loop-next.f in
     let g = c.if-takes.f in
-    let found = c.next_of-v-in-loop-v.ensures in (
-      omega (arith, found.behind, c.loop-v.invariant.0),
-      found.within,
-      row_passed a.n a.bound (weight_in a.weights.now) a.w outer.u outer.f.d outer.f.parent outer.f.tree g.d g.parent g.tree
-          (c.loop-v.v + 1) c.next_of-v-in-loop-v.result found.behind found.passed (turned (goal.at.loop-v-preserved c).Joined-takes),
-      found.found,
-    )
+    let v = c.in-Some.v in
+    let place = rw c.in-Some.is at c.loop-next.invariant.place in
+    let before = rw c.in-Some.is at c.loop-next.invariant.taken in
+    let found = c.next_of-next-in-Some in
+    let asked : c.takes.result ≡ is_taken (weight u v) a.w (get_or f.tree u 0) (get_or f.tree v 0) (get_or f.d u 0) (get_or f.d v 0) a.bound = rw place.2 c.takes.ensures in
+    let held : Forest → Type 0 = λ (g : Forest). Becomes a.n a.bound (λ F. row a.n a.bound weight a.w u F (v + 1)) o.d o.parent o.tree g.d g.parent g.tree in
+    let turned = elim c.if-takes.branch as (λ _. held g) [
+      | then-takes w ↦
+          let j = w.join-f.result in
+          subst held (sym w.f-is) (row_added a.n a.bound weight a.w u o.d o.parent o.tree f.d f.parent f.tree v place.0 place.1 before _ asked w.if-takes.true j.d j.parent j.tree w.join-f.ensures)
+      | else-takes w ↦ subst held (sym w.f-is) (row_dropped a.n a.bound weight a.w u o.d o.parent o.tree f.d f.parent f.tree v place.0 place.1 before _ asked w.if-takes.false)
+    ] in
+    record {
+      place = next_place a.n (weight u) u (v + 1) a.w found.result (omega (arith, place.0)) found.ensures;
+      taken = row_sought a.n a.bound weight a.w u o.d o.parent o.tree g.d g.parent g.tree (v + 1) found.result (omega (arith, place.1)) found.ensures turned;
+    }
 
 pub loop-u-preserved : goal.loop-u-preserved
 loop-u-preserved c =
     let l = c.loop-u in
     let a = c.args in
-    let g = c.if-f-u.f in (
-      omega (arith, c.loop-u-test.true),
-      rows_more a.n a.bound (weight_in a.weights.now) a.w l.u a.f0.d a.f0.parent a.f0.tree l.f.d l.f.parent l.f.tree
-          g.d g.parent g.tree l.invariant.1 (row_taken (goal.at.loop-u-preserved c).Joined-f-u),
-    )
+    let g = c.if-f-u.f in
+    rows_more a.n a.bound (weight_in a.weights.now) a.w l.u a.f0.d a.f0.parent a.f0.tree l.f.d l.f.parent l.f.tree
+    g.d g.parent g.tree l.invariant (row_taken (goal.at.loop-u-preserved c).Joined-f-u)
 
 pub returns : goal.returns
 returns c =
     let l = c.loop-u in
     let a = c.args in
     let e : l.u ≡ a.n = omega arith in
-    rows_end a.n a.bound (weight_in a.weights.now) a.w a.f0.d a.f0.parent a.f0.tree l.f.d l.f.parent l.f.tree (rw e at l.invariant.1)
+    rows_end a.n a.bound (weight_in a.weights.now) a.w a.f0.d a.f0.parent a.f0.tree l.f.d l.f.parent l.f.tree (rw e at l.invariant)

@@ -58,12 +58,6 @@ overflow_mul-at-in-loop-s c = let z = sized (goal.at.overflow_mul-at-in-loop-s c
 pub overflow_add-at-in-loop-s : goal.overflow_add-at-in-loop-s
 overflow_add-at-in-loop-s c = let z = sized (goal.at.overflow_add-at-in-loop-s c).After-records_at-records in omega (arith, (turned (goal.at.overflow_add-at-in-loop-s c).After-get16).at_in)
 
-pub overflow_add-s : goal.overflow_add-s
-overflow_add-s c = let z = sized (goal.at.overflow_add-s c).After-records_at-records in omega arith
-
-pub loop-s-smaller : goal.loop-s-smaller
-loop-s-smaller c = let z = sized (goal.at.loop-s-smaller c).After-records_at-records in omega arith
-
 pub loop-s-preserved : goal.loop-s-preserved
 loop-s-preserved c = turned (goal.at.loop-s-preserved c).After-get16
 

@@ -3,8 +3,8 @@ use Rattle.paper.specs.Image.{image_view}
 use Rattle.image.proofs.Way.{Way, steps_left}
 use Rattle.image.proofs.look_up.Given as goal
 
-abbrev pub invariant-loop-t : goal.invariant-loop-t
-invariant-loop-t l = Way (image_view l.image) l.state l.class l.s l.hops
+abbrev pub invariant-loop-target : goal.invariant-loop-target
+invariant-loop-target l = Way (image_view l.image) l.state l.class l.s l.hops
 
-abbrev pub decreases-loop-t : goal.decreases-loop-t
-decreases-loop-t l = steps_left (image_view l.image) l.s
+abbrev pub decreases-loop-target : goal.decreases-loop-target
+decreases-loop-target l = steps_left (image_view l.image) l.s

@@ -9,10 +9,10 @@ use Rattle.joining.proofs.join.Goals as goal
 pub returns : goal.returns
 returns c =
     let a = c.args in
-    let long : a.v < length c.turned_to-p2.result = search rules in
+    let long : a.v < length c.turned_to-parent.result = search rules in
     let long_far : length c.renew-d.result ≡ 512 = search rules in
     let long_tree : length c.renumber-tree.result ≡ 512 = search rules in
-    joined_held a.n a.u a.v a.f.d a.f.parent a.f.tree c.turned_to-p1.result c.turned_to-p2.result
+    joined_held a.n a.u a.v a.f.d a.f.parent a.f.tree c.turned_to-once.result c.turned_to-parent.result
     c.renew-d.result c.renumber-tree.result c.requires.0 c.requires.1 c.requires.2 long long_far long_tree
-    c.turned_to-p1.ensures.1 c.turned_to-p2.ensures.1 c.turned_to-p2.ensures.0
+    c.turned_to-once.ensures.1 c.turned_to-parent.ensures.1 c.turned_to-parent.ensures.0
     c.renew-d.ensures c.renumber-tree.ensures

@@ -1,17 +1,18 @@
 -- After each test the number is decided by the grounds that are left.
 -- First stand the places past each ground: what was read there, the grounds that are left, and what is known of the image. The answers follow.
-use mathlib.Core.Path.{sym, ◌∙◌, ◌≡◌, ap}
+use mathlib.Core.Path.{refl, sym, ◌∙◌, ◌≡◌, ap}
 use native.Mathlib.Omega.{arith}
 use borrow.Author.Tests.{le-leb, lt-leb}
 use Rattle.facts.proofs.CountFacts.{few_entries, AllInRange, all_in_range}
 use Rattle.table.proofs.Decided.{passed, applies, none_left, Decided}
-use Rattle.judge.proofs.Judged.{short, from2, from_counts, from3, from4, from5, from6, from7, from_labels, from8, from9, from10, not_short, counted_so, counts_laid}
+use Rattle.judge.proofs.Grounds.{short, from2, from_counts, from3, from4, from5, from6, from7, from_labels, from8, from9, from10, not_short, counted_so, counts_laid}
 use mathlib.Core.List.{List}
 use Prim.Native.Nat.{ℕ, ◌<◌}
 use lib.ListN.{length}
 use Rattle.paper.specs.Refusals.{Ground, first}
-use Rattle.paper.specs.Labels.{edition_of, states_in_word, labels_behind}
-use Rattle.paper.specs.Image.{states, image_length_of}
+use Rattle.paper.specs.Labels.{Edition, edition_of, states_in_word, labels_behind}
+use Rattle.paper.specs.Image.{edition, states, image_length_of}
+use Rattle.labels.specs.Editions.{edition_in}
 use Rattle.paper.proofs.Tests.{not_differ}
 use Rattle.image.specs.Laid.{Laid}
 use Rattle.image.specs.Grounds.{first_grounds_of}
@@ -23,9 +24,9 @@ use Rattle.judge.proofs.first_grounds.Goals.{After-get32-m, Else-check_bad, Else
 abbrev pub B : After-get32-m → List ℕ
 B c = c.args.b.now
 
--- The first word that was read.
-abbrev pub W : After-get32-m → ℕ
-W c = c.get16-word.result
+-- Its edition, by the first word that was read.
+abbrev pub W : After-get32-m → Edition
+W c = edition_in c.of-edition.result
 
 -- The number of states that it gives.
 abbrev pub N : After-get32-m → ℕ
@@ -43,19 +44,23 @@ S c = c.get16-start.result
 abbrev pub M : After-get32-m → ℕ
 M c = c.get32-m.result
 
+-- The edition is the image's.
+pub edition_read : (c : After-get32-m) → W c ≡ edition (B c)
+edition_read c = c.of-edition.ensures ∙ ap edition_of c.get16-word.ensures
+
 -- The number of states is the image's.
 pub states_read : (c : After-get32-m) → N c ≡ states (B c)
 states_read c = c.states_of-n.ensures ∙ ap states_in_word c.get16-word.ensures
 
 -- The grounds that are left, for what was read.
-abbrev Left : (List ℕ → ℕ → ℕ → ℕ → ℕ → ℕ → List Ground) → After-get32-m → Type 0
+abbrev Left : (List ℕ → Edition → ℕ → ℕ → ℕ → ℕ → List Ground) → After-get32-m → Type 0
 Left from r = Decided (first (first_grounds_of (B r))) (from (B r) (W r) (N r) (K r) (M r) (S r))
 
 -- Past ground 1.
 pub past₁ : (c : After-get32-m) → Left from2 c
 past₁ c =
-    not_short (B c) (W c) (N c) (K c) (M c) (S c) c.if-b-lt24.false c.get16-word.ensures
-    c.states_of-n.ensures c.get16-k.ensures c.get32-m.ensures c.get16-start.ensures
+    not_short (B c) (W c) (N c) (K c) (M c) (S c) c.if-b-lt24.false (edition_read c)
+    (states_read c) c.get16-k.ensures c.get32-m.ensures c.get16-start.ensures
 
 -- Past ground 2.
 pub past₂ : (c : Else-counts_bad) → Left from_counts (goal.at.Else-counts_bad c).After-get32-m
@@ -102,14 +107,14 @@ pub ranged : (c : Else-counts_bad) → AllInRange (N (goal.at.Else-counts_bad c)
 ranged c = all_in_range (N (goal.at.Else-counts_bad c).After-get32-m) (K (goal.at.Else-counts_bad c).After-get32-m) (M (goal.at.Else-counts_bad c).After-get32-m) (sym c.counts_bad.ensures ∙ c.if-counts_bad.false)
 
 -- Past ground 3 the length is the one that they give.
-pub long : (c : Else-length_bad) → length (B (goal.at.Else-length_bad c).After-get32-m) ≡ image_length_of (N (goal.at.Else-length_bad c).After-get32-m) (M (goal.at.Else-length_bad c).After-get32-m) (labels_behind (B (goal.at.Else-length_bad c).After-get32-m) 268 (N (goal.at.Else-length_bad c).After-get32-m) (edition_of (W (goal.at.Else-length_bad c).After-get32-m)))
+pub long : (c : Else-length_bad) → length (B (goal.at.Else-length_bad c).After-get32-m) ≡ image_length_of (N (goal.at.Else-length_bad c).After-get32-m) (M (goal.at.Else-length_bad c).After-get32-m) (labels_behind (B (goal.at.Else-length_bad c).After-get32-m) 268 (N (goal.at.Else-length_bad c).After-get32-m) (W (goal.at.Else-length_bad c).After-get32-m))
 long c = not_differ _ _ (sym c.length_bad.ensures ∙ c.if-length_bad.false)
 
 -- So the image has its counts.
 pub counted : (c : Else-length_bad) → Counted (B (goal.at.Else-length_bad c).After-get32-m) (N (goal.at.Else-length_bad c).After-get32-m) (M (goal.at.Else-length_bad c).After-get32-m)
 counted c =
     let R = ranged (goal.at.Else-length_bad c).Else-counts_bad in
-    counted_so (B (goal.at.Else-length_bad c).After-get32-m) (W (goal.at.Else-length_bad c).After-get32-m) (N (goal.at.Else-length_bad c).After-get32-m) (M (goal.at.Else-length_bad c).After-get32-m) c.get16-word.ensures c.states_of-n.ensures c.get32-m.ensures R.counts.few_states
+    counted_so (B (goal.at.Else-length_bad c).After-get32-m) (W (goal.at.Else-length_bad c).After-get32-m) (N (goal.at.Else-length_bad c).After-get32-m) (M (goal.at.Else-length_bad c).After-get32-m) (edition_read (goal.at.Else-length_bad c).After-get32-m) (states_read (goal.at.Else-length_bad c).After-get32-m) c.get32-m.ensures R.counts.few_states
     (few_entries R) (sym c.counts_bad-2.ensures ∙ c.if-counts_bad-2.false) (long c)
 
 -- Past ground 8 its records count its entries.
@@ -136,7 +141,7 @@ pub returns-then-counts_bad-2 : goal.returns-then-counts_bad-2
 returns-then-counts_bad-2 c = applies (past₂ (goal.at.returns-then-counts_bad-2 c).Else-counts_bad) (sym c.counts_bad-2.ensures ∙ c.if-counts_bad-2.true)
 
 pub length_bad-requires : goal.length_bad-requires
-length_bad-requires c = let R = ranged (goal.at.length_bad-requires c).Else-counts_bad in (R.counts.few_states, few_entries R)
+length_bad-requires c = let R = ranged (goal.at.length_bad-requires c).Else-counts_bad in (refl, R.counts.few_states, few_entries R)
 
 pub returns-then-length_bad : goal.returns-then-length_bad
 returns-then-length_bad c = applies (past_counts (goal.at.returns-then-length_bad c).Else-counts_bad-2) (sym c.length_bad.ensures ∙ c.if-length_bad.true)

@@ -4,7 +4,7 @@ use mathlib.Core.Path.{sym, ◌∙◌, ◌≡◌, ap}
 use native.Mathlib.Omega.{arith}
 use Rattle.paper.proofs.Tests.{holds_differ, same_differ}
 use Rattle.table.proofs.Decided.{applies, Decided, passed}
-use Rattle.judgepatch.proofs.Judged.{behind_image, from24, from8, from9, from10, read_so, own_so}
+use Rattle.judgepatch.proofs.Grounds.{behind_image, from24, from8, from9, from10, read_so, own_so}
 use mathlib.Core.Bool.{false}
 use mathlib.Core.List.{List, ◌∷◌}
 use Prim.Native.Nat.{ℕ, ◌≤◌}
@@ -15,7 +15,8 @@ use Rattle.paper.specs.Image as image
 use Rattle.paper.specs.Image.{states, classes}
 use Rattle.paper.specs.Patch.{listed_states, entries, image_word, shape_bad_of}
 use Rattle.paper.specs.Operations.{judge_patch_of}
-use Rattle.facts.proofs.ImageFacts.{AcceptedImage}
+use Rattle.std.proofs.lemmas.Result.{err_from_is_err_and}
+use Rattle.facts.proofs.ImageFacts.{AcceptedImage, accepted_image}
 use Rattle.facts.proofs.PatchFacts.{shaped_patch, states-listed}
 use Rattle.words.proofs.Lent.{fits_bytes}
 use Rattle.patch.specs.Shaped.{Shaped, Counts}
@@ -29,14 +30,14 @@ use Rattle.judgepatch.proofs.judge_over.Goals.{After-get32-q, After-shape_bad, E
 
 -- The image and the patch.
 abbrev pub B : After-shape_bad → List ℕ
-B c = c.args.image.now
+B c = c.args.image.now.bytes.now
 
 abbrev pub X : After-shape_bad → List ℕ
 X c = c.args.x.now
 
 -- The image is accepted.
 pub accepted : (c : After-shape_bad) → AcceptedImage (B c)
-accepted c = c.requires
+accepted c = accepted_image _ c.args.image.now.accepted
 
 -- Past ground 22.
 not_22 : (c : Else-shape_bad) → shape_bad_of (X (goal.at.Else-shape_bad c).After-shape_bad) ≡ false
@@ -52,13 +53,13 @@ long c = omega (arith, (shaped_patch (X (goal.at.Else-shape_bad c).After-shape_b
 
 -- The numbers that were read.
 abbrev pub N : After-get32-q → ℕ
-N c = c.states_of-n.result
+N c = c.args.image.now.n
 
 abbrev pub K : After-get32-q → ℕ
-K c = c.get16-k.result
+K c = c.args.image.now.k
 
 abbrev pub M : After-get32-q → ℕ
-M c = c.get32-m.result
+M c = c.args.image.now.m
 
 abbrev pub P : After-get32-q → ℕ
 P c = c.get16-p.result
@@ -68,7 +69,7 @@ Q c = c.get32-q.result
 
 -- The number of states is the image's.
 states_read : (c : After-get32-q) → N c ≡ states (B (goal.at.After-get32-q c).After-shape_bad)
-states_read c = c.states_of-n.ensures ∙ ap states_in_word c.get16-3.ensures
+states_read c = c.args.image.now.states_are
 
 -- The patch is shaped.
 pub shape : (c : After-get32-q) → Shaped (X (goal.at.After-get32-q c).After-shape_bad) (P c) (Q c)
@@ -78,7 +79,7 @@ shape c =
 -- Past ground 23.
 pub past₂₃ : (c : After-get32-q) → Decided (judge_patch_of (B (goal.at.After-get32-q c).After-shape_bad) (X (goal.at.After-get32-q c).After-shape_bad)) (from24 (B (goal.at.After-get32-q c).After-shape_bad) (X (goal.at.After-get32-q c).After-shape_bad) (N c) (K c) (P c) (Q c))
 past₂₃ c =
-    read_so (B (goal.at.After-get32-q c).After-shape_bad) (X (goal.at.After-get32-q c).After-shape_bad) (accepted (goal.at.After-get32-q c).After-shape_bad) (N c) (K c) (P c) (Q c) (states_read c) c.get16-k.ensures c.get16-p.ensures c.get32-q.ensures
+    read_so (B (goal.at.After-get32-q c).After-shape_bad) (X (goal.at.After-get32-q c).After-shape_bad) (accepted (goal.at.After-get32-q c).After-shape_bad) (N c) (K c) (P c) (Q c) (states_read c) c.args.image.now.classes_are c.get16-p.ensures c.get32-q.ensures
     (passed (past₂₂ (goal.at.After-get32-q c).Else-shape_bad) (same_differ _ _ (sym c.get16.ensures ∙ c.if-get16.false ∙ c.get16-2.ensures)))
 
 -- Past ground 24 the listed states rise and are below n.
@@ -89,13 +90,13 @@ listed c =
 
 pub past₂₄ : (c : Else-states_bad) → Decided (judge_patch_of (B (goal.at.Else-states_bad c).After-shape_bad) (X (goal.at.Else-states_bad c).After-shape_bad)) (from8 (B (goal.at.Else-states_bad c).After-shape_bad) (X (goal.at.Else-states_bad c).After-shape_bad) (N (goal.at.Else-states_bad c).After-get32-q) (K (goal.at.Else-states_bad c).After-get32-q) (P (goal.at.Else-states_bad c).After-get32-q) (Q (goal.at.Else-states_bad c).After-get32-q))
 past₂₄ c =
-    own_so (B (goal.at.Else-states_bad c).After-shape_bad) (X (goal.at.Else-states_bad c).After-shape_bad) (accepted (goal.at.Else-states_bad c).After-shape_bad) (N (goal.at.Else-states_bad c).After-get32-q) (K (goal.at.Else-states_bad c).After-get32-q) (P (goal.at.Else-states_bad c).After-get32-q) (Q (goal.at.Else-states_bad c).After-get32-q) (states_read (goal.at.Else-states_bad c).After-get32-q) c.get16-k.ensures c.get16-p.ensures c.get32-q.ensures (listed c)
+    own_so (B (goal.at.Else-states_bad c).After-shape_bad) (X (goal.at.Else-states_bad c).After-shape_bad) (accepted (goal.at.Else-states_bad c).After-shape_bad) (N (goal.at.Else-states_bad c).After-get32-q) (K (goal.at.Else-states_bad c).After-get32-q) (P (goal.at.Else-states_bad c).After-get32-q) (Q (goal.at.Else-states_bad c).After-get32-q) (states_read (goal.at.Else-states_bad c).After-get32-q) c.args.image.now.classes_are c.get16-p.ensures c.get32-q.ensures (listed c)
     (passed (past₂₃ (goal.at.Else-states_bad c).After-get32-q) (sym c.states_bad.ensures ∙ c.if-states_bad.false))
 
 -- Past ground 8 the patch counts its entries.
 pub counts : (c : Else-records_bad) → Counts (X (goal.at.Else-records_bad c).After-shape_bad) (P (goal.at.Else-records_bad c).After-get32-q) (Q (goal.at.Else-records_bad c).After-get32-q)
 counts c =
-    counts_so (shape (goal.at.Else-records_bad c).After-get32-q) (N (goal.at.Else-records_bad c).After-get32-q) (K (goal.at.Else-records_bad c).After-get32-q) (omega (arith, (accepted (goal.at.Else-records_bad c).After-shape_bad).few_classes, c.get16-k.ensures)) (sym c.records_bad.ensures ∙ c.if-records_bad.false)
+    counts_so (shape (goal.at.Else-records_bad c).After-get32-q) (N (goal.at.Else-records_bad c).After-get32-q) (K (goal.at.Else-records_bad c).After-get32-q) (omega (arith, (accepted (goal.at.Else-records_bad c).After-shape_bad).few_classes, c.args.image.now.classes_are)) (sym c.records_bad.ensures ∙ c.if-records_bad.false)
 
 pub past₈ : (c : Else-records_bad) → Decided (judge_patch_of (B (goal.at.Else-records_bad c).After-shape_bad) (X (goal.at.Else-records_bad c).After-shape_bad)) (from9 (B (goal.at.Else-records_bad c).After-shape_bad) (X (goal.at.Else-records_bad c).After-shape_bad) (N (goal.at.Else-records_bad c).After-get32-q) (K (goal.at.Else-records_bad c).After-get32-q) (P (goal.at.Else-records_bad c).After-get32-q) (Q (goal.at.Else-records_bad c).After-get32-q))
 past₈ c = passed (past₂₄ (goal.at.Else-records_bad c).Else-states_bad) (sym c.records_bad.ensures ∙ c.if-records_bad.false)
@@ -111,36 +112,27 @@ past₁₀ c = passed (past₉ (goal.at.Else-next_bad c).Else-entry_classes_bad)
 -- And image and patch are an overlay.
 pub overlay : (c : Else-next_bad) → Overlay (B (goal.at.Else-next_bad c).After-shape_bad) (X (goal.at.Else-next_bad c).After-shape_bad) (N (goal.at.Else-next_bad c).After-get32-q) (K (goal.at.Else-next_bad c).After-get32-q) (M (goal.at.Else-next_bad c).After-get32-q) (P (goal.at.Else-next_bad c).After-get32-q) (Q (goal.at.Else-next_bad c).After-get32-q)
 overlay c =
-    overlay_so (accepted (goal.at.Else-next_bad c).After-shape_bad) (states_read (goal.at.Else-next_bad c).After-get32-q) c.get16-k.ensures c.get32-m.ensures (counts (goal.at.Else-next_bad c).Else-records_bad) (listed (goal.at.Else-next_bad c).Else-states_bad)
+    overlay_so (accepted (goal.at.Else-next_bad c).After-shape_bad) (states_read (goal.at.Else-next_bad c).After-get32-q) c.args.image.now.classes_are c.args.image.now.entries_are (counts (goal.at.Else-next_bad c).Else-records_bad) (listed (goal.at.Else-next_bad c).Else-states_bad)
     (sym c.records_bad.ensures ∙ c.if-records_bad.false) (sym c.entry_classes_bad.ensures ∙ c.if-entry_classes_bad.false) (sym c.next_bad.ensures ∙ c.if-next_bad.false)
 
-pub returns-then-shape_bad : goal.returns-then-shape_bad
-returns-then-shape_bad c = applies (behind_image (B (goal.at.returns-then-shape_bad c).After-shape_bad) (X (goal.at.returns-then-shape_bad c).After-shape_bad) (accepted (goal.at.returns-then-shape_bad c).After-shape_bad)) (sym c.shape_bad.ensures ∙ c.if-shape_bad.true)
+pub returns-then-shape_bad-clause-number : goal.returns-then-shape_bad-clause-number
+returns-then-shape_bad-clause-number c = applies (behind_image (B (goal.at.returns-then-shape_bad-clause-number c).After-shape_bad) (X (goal.at.returns-then-shape_bad-clause-number c).After-shape_bad) (accepted (goal.at.returns-then-shape_bad-clause-number c).After-shape_bad)) (sym c.shape_bad.ensures ∙ c.if-shape_bad.true)
 
 pub overflow_sub-x : goal.overflow_sub-x
 overflow_sub-x c = omega (arith, long (goal.at.overflow_sub-x c).Else-shape_bad)
 
+pub overflow_sub-b : goal.overflow_sub-b
+overflow_sub-b c = omega (arith, (accepted (goal.at.overflow_sub-b c).After-shape_bad).long)
+
 pub get16-requires : goal.get16-requires
 get16-requires c = omega (arith, long (goal.at.get16-requires c).Else-shape_bad)
-
-pub overflow_sub-image : goal.overflow_sub-image
-overflow_sub-image c = omega (arith, (accepted (goal.at.overflow_sub-image c).After-shape_bad).long)
 
 pub get16-requires-2 : goal.get16-requires-2
 get16-requires-2 c = omega (arith, (accepted (goal.at.get16-requires-2 c).After-shape_bad).long)
 
-pub returns-then-get16 : goal.returns-then-get16
-returns-then-get16 c =
-    applies (past₂₂ (goal.at.returns-then-get16 c).Else-shape_bad) ((holds_differ _ _).1 (λ e. c.if-get16.true (c.get16.ensures ∙ e ∙ sym c.get16-2.ensures)))
-
-pub get16-requires-3 : goal.get16-requires-3
-get16-requires-3 c = omega (arith, (accepted (goal.at.get16-requires-3 c).After-shape_bad).long)
-
-pub get16-k-requires : goal.get16-k-requires
-get16-k-requires c = omega (arith, (accepted (goal.at.get16-k-requires c).After-shape_bad).long)
-
-pub get32-m-requires : goal.get32-m-requires
-get32-m-requires c = omega (arith, (accepted (goal.at.get32-m-requires c).After-shape_bad).long)
+pub returns-then-get16-clause-number : goal.returns-then-get16-clause-number
+returns-then-get16-clause-number c =
+    applies (past₂₂ (goal.at.returns-then-get16-clause-number c).Else-shape_bad) ((holds_differ _ _).1 (λ e. c.if-get16.true (c.get16.ensures ∙ e ∙ sym c.get16-2.ensures)))
 
 pub get16-p-requires : goal.get16-p-requires
 get16-p-requires c = omega (arith, long (goal.at.get16-p-requires c).Else-shape_bad)
@@ -151,14 +143,14 @@ get32-q-requires c = omega (arith, long (goal.at.get32-q-requires c).Else-shape_
 pub states_bad-requires : goal.states_bad-requires
 states_bad-requires c = shape (goal.at.states_bad-requires c).After-get32-q
 
-pub returns-then-states_bad : goal.returns-then-states_bad
-returns-then-states_bad c = applies (past₂₃ (goal.at.returns-then-states_bad c).After-get32-q) (sym c.states_bad.ensures ∙ c.if-states_bad.true)
+pub returns-then-states_bad-clause-number : goal.returns-then-states_bad-clause-number
+returns-then-states_bad-clause-number c = applies (past₂₃ (goal.at.returns-then-states_bad-clause-number c).After-get32-q) (sym c.states_bad.ensures ∙ c.if-states_bad.true)
 
 pub records_bad-requires : goal.records_bad-requires
 records_bad-requires c = shape (goal.at.records_bad-requires c).After-get32-q
 
-pub returns-then-records_bad : goal.returns-then-records_bad
-returns-then-records_bad c = applies (past₂₄ (goal.at.returns-then-records_bad c).Else-states_bad) (sym c.records_bad.ensures ∙ c.if-records_bad.true)
+pub returns-then-records_bad-clause-number : goal.returns-then-records_bad-clause-number
+returns-then-records_bad-clause-number c = applies (past₂₄ (goal.at.returns-then-records_bad-clause-number c).Else-states_bad) (sym c.records_bad.ensures ∙ c.if-records_bad.true)
 
 pub begins_of-begins-requires : goal.begins_of-begins-requires
 begins_of-begins-requires c = counts (goal.at.begins_of-begins-requires c).Else-records_bad
@@ -166,17 +158,27 @@ begins_of-begins-requires c = counts (goal.at.begins_of-begins-requires c).Else-
 pub entry_classes_bad-requires : goal.entry_classes_bad-requires
 entry_classes_bad-requires c = (counts (goal.at.entry_classes_bad-requires c).Else-records_bad, c.begins_of-begins.ensures)
 
-pub returns-then-entry_classes_bad : goal.returns-then-entry_classes_bad
-returns-then-entry_classes_bad c = applies (past₈ (goal.at.returns-then-entry_classes_bad c).Else-records_bad) (sym c.entry_classes_bad.ensures ∙ c.if-entry_classes_bad.true)
+pub returns-then-entry_classes_bad-clause-number : goal.returns-then-entry_classes_bad-clause-number
+returns-then-entry_classes_bad-clause-number c = applies (past₈ (goal.at.returns-then-entry_classes_bad-clause-number c).Else-records_bad) (sym c.entry_classes_bad.ensures ∙ c.if-entry_classes_bad.true)
 
 pub next_bad-requires : goal.next_bad-requires
 next_bad-requires c = (counts (goal.at.next_bad-requires c).Else-records_bad, c.begins_of-begins.ensures)
 
-pub returns-then-next_bad : goal.returns-then-next_bad
-returns-then-next_bad c = applies (past₉ (goal.at.returns-then-next_bad c).Else-entry_classes_bad) (sym c.next_bad.ensures ∙ c.if-next_bad.true)
+pub returns-then-next_bad-clause-number : goal.returns-then-next_bad-clause-number
+returns-then-next_bad-clause-number c = applies (past₉ (goal.at.returns-then-next_bad-clause-number c).Else-entry_classes_bad) (sym c.next_bad.ensures ∙ c.if-next_bad.true)
 
 pub last_grounds-requires : goal.last_grounds-requires
 last_grounds-requires c = overlay (goal.at.last_grounds-requires c).Else-next_bad
 
-pub returns : goal.returns
-returns c = c.last_grounds.ensures ∙ sym (past₁₀ (goal.at.returns c).Else-next_bad).decided
+pub returns-in_err-last_grounds-clause-number : goal.returns-in_err-last_grounds-clause-number
+returns-in_err-last_grounds-clause-number c =
+    let p = err_from_is_err_and c.from_residual.result c.from_residual.ensures.1 in
+    rw (p.1, p.2) (c.in_err-last_grounds.ensures ∙ sym (past₁₀ (goal.at.returns-in_err-last_grounds-clause-number c).Else-next_bad).decided)
+
+pub invariant_of-result : goal.invariant_of-result
+invariant_of-result c =
+    record {
+      accepted = (past₁₀ (goal.at.invariant_of-result c).Else-next_bad).decided ∙ sym c.in_ok-last_grounds.ensures;
+      listed_are = c.get16-p.ensures;
+      entries_are = c.get32-q.ensures;
+    }

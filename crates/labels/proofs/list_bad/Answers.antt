@@ -1,8 +1,5 @@
-use mathlib.Core.Path.{◌≡◌, refl, sym}
-use Prim.Native.Nat.{◌+◌, ◌*◌}
-use native.Mathlib.Numerals.{add-one}
-use native.Mathlib.Omega.{arith}
-use borrow.Author.Tests.{le-leb, lt-leb}
+use Rattle.std.proofs.Common.{◌≡◌, ◌+◌, ◌*◌, refl, sym, add-one, le-leb, arith}
+use borrow.Author.Tests.{lt-leb}
 use Rattle.paper.specs.Words.{number16}
 use Rattle.paper.proofs.Below.{any_more, any_found}
 use Rattle.labels.specs.Lists.{low_of, list_bad_of}
@@ -10,7 +7,7 @@ use Rattle.labels.proofs.list_bad.Invariants.{falls}
 use Rattle.labels.proofs.list_bad.Goals as goal
 
 pub loop-j-init : goal.loop-j-init
-loop-j-init c = (omega arith, refl, refl)
+loop-j-init c = (refl, refl)
 
 pub returns-then-label-low : goal.returns-then-label-low
 unfolding list_bad_of
@@ -23,11 +20,10 @@ pub loop-j-preserved : goal.loop-j-preserved
 loop-j-preserved c =
     let a = c.args in
     let b = a.b.now in (
-      omega arith,
       rw (add-one c.loop-j.j) (omega arith),
-      any_more c.loop-j.j (falls b a.from) c.loop-j.invariant.2 (lt-leb (number16 b (a.from + 2 * c.loop-j.j)) (low_of b a.from c.loop-j.j) (omega arith)),
+      any_more c.loop-j.j (falls b a.from) c.loop-j.invariant.1 (lt-leb (number16 b (a.from + 2 * c.loop-j.j)) (low_of b a.from c.loop-j.j) (omega arith)),
     )
 
 pub returns : goal.returns
 unfolding list_bad_of
-returns c = let all : c.loop-j.j ≡ c.args.count = omega arith in sym (rw all at c.loop-j.invariant.2)
+returns c = let all : c.loop-j.j ≡ c.args.count = omega arith in sym (rw all at c.loop-j.invariant.1)

@@ -1,9 +1,5 @@
 -- The loop's invariant: none of the first j labels is not above what it is held to, and `low` is what the next is held to.
-use mathlib.Core.Path.{◌≡◌}
-use mathlib.Core.Bool.{Bool, false}
-use mathlib.Core.List.{List}
-use Prim.Native.Nat.{ℕ, ◌≤◌, ◌-◌, ◌+◌, ◌*◌}
-use lib.Dec.{leb}
+use Rattle.std.proofs.Common.{◌≡◌, ◌+◌, ◌*◌, Bool, false, List, ℕ, leb}
 use Rattle.paper.specs.Below.{any}
 use Rattle.paper.specs.Words.{number16}
 use Rattle.labels.specs.Lists.{low_of}
@@ -14,7 +10,4 @@ abbrev pub falls : List ℕ → ℕ → ℕ → Bool
 falls b from j = leb (number16 b (from + 2 * j)) (low_of b from j)
 
 abbrev pub invariant-loop-j : goal.invariant-loop-j
-invariant-loop-j l = (l.j ≤ l.count) × (l.low ≡ low_of l.b l.from l.j) × (any l.j (falls l.b l.from) ≡ false)
-
-abbrev pub decreases-loop-j : goal.decreases-loop-j
-decreases-loop-j l = l.count - l.j
+invariant-loop-j l = (l.low ≡ low_of l.b l.from l.j) × (any l.j (falls l.b l.from) ≡ false)

@@ -4,4 +4,4 @@ use Rattle.moves.proofs.put_head.Goals as goal
 
 pub returns : goal.returns
 returns c =
-    head_put c.args.image.now c.args.room.now _ _ c.args.word c.requires.1 c.put16.ensures c.copy.ensures
+    head_put c.args.image.now c.args.room.now _ _ c.args.word c.requires.1 c.put16.ensures c.put_bytes.ensures

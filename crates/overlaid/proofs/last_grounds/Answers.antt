@@ -1,71 +1,44 @@
 -- Each way out is the first of the last three grounds that applies: what is ordered and swept decides them.
-use mathlib.Core.Path.{◌≡◌, sym, ◌∙◌}
-use mathlib.Core.Bool.{false}
-use mathlib.Core.List.{List}
-use Prim.Native.Nat.{ℕ}
-use native.Mathlib.Omega.{arith}
+use Rattle.std.proofs.Common.{◌≡◌, List, ℕ}
+use Rattle.std.proofs.lemmas.Result.{err_from_is_err_and}
 use Rattle.paper.specs.Below.{sum}
 use Rattle.paper.specs.Refusals.{first}
-use Rattle.paper.specs.View.{View, any_entry, same_as_default}
 use Rattle.paper.specs.Image.{states, class_of}
 use Rattle.paper.specs.Patch.{patched_view, depth, worst}
-use Rattle.sweep.proofs.Verdict.{last_of, eleven, twelve, other_depth, other_worst, none_left}
+use Rattle.sweep.proofs.Verdict.{last_of, told_eleven, told_twelve, told_depth, told_worst, told_none}
 use Rattle.overlaid.specs.Chosen.{last_grounds_of}
 use Rattle.overlaid.proofs.last_grounds.Goals as goal
-use Rattle.overlaid.proofs.last_grounds.Goals.{After-ordered-chains, Else-swept}
-
-abbrev bytes : After-ordered-chains → List ℕ
-bytes c = c.args.image.now
-
-abbrev patch : After-ordered-chains → List ℕ
-patch c = c.args.x.now
-
-abbrev view : After-ordered-chains → View
-view c = patched_view (bytes c) (patch c)
 
 -- The last grounds of an image with a patch are those of the view of both.
-patch_last : (c : After-ordered-chains) (r : ℕ) → r ≡ last_of (view c) (class_of (bytes c)) (sum (states (bytes c)) (view c).count) (depth (patch c)) (worst (patch c)) → r ≡ first (last_grounds_of (bytes c) (patch c))
+patch_last : (b x : List ℕ) (r : ℕ) → r ≡ last_of (patched_view b x) (class_of b) (sum (states b) (patched_view b x).count) (depth x) (worst x) → r ≡ first (last_grounds_of b x)
 unfolding last_grounds_of
-patch_last c r e = e
+patch_last b x r e = e
 
--- Where the sweep found nothing, every entry of the view is needed.
-needed : (c : Else-swept) → let v = view (goal.at.Else-swept c).After-ordered-chains in any_entry v (same_as_default v) ≡ false
-needed c = sym c.sweep-swept.ensures.0 ∙ c.if-swept.false
+pub sweep-requires : goal.sweep-requires
+sweep-requires c = (c.requires, c.in_ok-chains.ensures.ordered.1)
 
-pub ordered-chains-requires : goal.ordered-chains-requires
-ordered-chains-requires c = c.requires
+pub returns-in_err-chains : goal.returns-in_err-chains
+returns-in_err-chains c =
+    let p = err_from_is_err_and c.from_residual.result c.from_residual.ensures.1 in
+    rw (p.1, p.2) (patch_last c.args.image.now c.args.x.now _ (told_eleven (patched_view c.args.image.now c.args.x.now) _ _ _ _ _ c.in_err-chains.ensures.endless))
 
-pub returns-then-chains : goal.returns-then-chains
-returns-then-chains c = patch_last (goal.at.returns-then-chains c).After-ordered-chains 11 (eleven (view (goal.at.returns-then-chains c).After-ordered-chains) _ _ _ _ (c.ordered-chains.ensures.0 ∙ c.if-chains.true))
-
-pub sweep-swept-requires : goal.sweep-swept-requires
-sweep-swept-requires c = (c.requires, (c.ordered-chains.ensures.1 c.if-chains.false).1)
-
-pub returns-then-swept : goal.returns-then-swept
-returns-then-swept c =
-    let found = c.ordered-chains.ensures in
-    patch_last (goal.at.returns-then-swept c).After-ordered-chains 12 (twelve (view (goal.at.returns-then-swept c).After-ordered-chains) _ _ _ _ (found.0 ∙ c.if-chains.false) (sym c.sweep-swept.ensures.0 ∙ c.if-swept.true))
-
-pub get16-depth-requires : goal.get16-depth-requires
-get16-depth-requires c = omega (arith, c.requires.counts.shaped.long)
+pub returns-in_err-far : goal.returns-in_err-far
+returns-in_err-far c =
+    let p = err_from_is_err_and c.from_residual-in_err-far.result c.from_residual-in_err-far.ensures.1 in
+    rw (p.1, p.2) (patch_last c.args.image.now c.args.x.now _ (told_twelve (patched_view c.args.image.now c.args.x.now) _ _ _ _ c.in_ok-chains.ensures.endless _ c.in_err-far.ensures.needless))
 
 pub returns-then-depth-deep : goal.returns-then-depth-deep
 returns-then-depth-deep c =
-    let found = c.ordered-chains.ensures in
-    patch_last (goal.at.returns-then-depth-deep c).After-ordered-chains 13 (other_depth (view (goal.at.returns-then-depth-deep c).After-ordered-chains) _ _ _ _ (found.0 ∙ c.if-chains.false) (needed (goal.at.returns-then-depth-deep c).Else-swept) (λ e. c.if-depth-deep.true (c.get16-depth.ensures ∙ e ∙ (found.1 c.if-chains.false).0)))
-
-pub get16-worst-requires : goal.get16-worst-requires
-get16-worst-requires c = omega (arith, c.requires.counts.shaped.long)
+    patch_last c.args.image.now c.args.x.now 13
+    (told_depth (patched_view c.args.image.now c.args.x.now) _ _ _ _ c.in_ok-chains.ensures.endless c.in_ok-far.ensures.needless _ c.in_ok-chains.ensures.ordered.0 _ c.get16-depth.ensures c.if-depth-deep.true)
 
 pub returns-then-worst-far : goal.returns-then-worst-far
 returns-then-worst-far c =
-    let found = c.ordered-chains.ensures in
-    let far = c.sweep-swept.ensures.1 c.if-swept.false in
-    patch_last (goal.at.returns-then-worst-far c).After-ordered-chains 13 (other_worst (view (goal.at.returns-then-worst-far c).After-ordered-chains) _ _ _ _ (found.0 ∙ c.if-chains.false) (needed (goal.at.returns-then-worst-far c).Else-swept) (λ e. c.if-worst-far.true (c.get16-worst.ensures ∙ e ∙ sym far)))
+    patch_last c.args.image.now c.args.x.now 13
+    (told_worst (patched_view c.args.image.now c.args.x.now) _ _ _ _ c.in_ok-chains.ensures.endless c.in_ok-far.ensures.needless _ c.in_ok-far.ensures.worst _ c.get16-worst.ensures c.if-worst-far.true)
 
 pub returns : goal.returns
 returns c =
-    let found = c.ordered-chains.ensures in
-    let far = c.sweep-swept.ensures.1 c.if-swept.false in
-    patch_last (goal.at.returns c).After-ordered-chains 0 (none_left (view (goal.at.returns c).After-ordered-chains) _ _ _ _ (found.0 ∙ c.if-chains.false) (needed (goal.at.returns c).Else-swept)
-    (sym c.get16-depth.ensures ∙ c.if-depth-deep.false ∙ sym (found.1 c.if-chains.false).0) (sym c.get16-worst.ensures ∙ c.if-worst-far.false ∙ far))
+    patch_last c.args.image.now c.args.x.now 0
+    (told_none (patched_view c.args.image.now c.args.x.now) _ _ _ _ c.in_ok-chains.ensures.endless c.in_ok-far.ensures.needless _ _ c.in_ok-chains.ensures.ordered.0 c.in_ok-far.ensures.worst _ _ c.get16-depth.ensures c.get16-worst.ensures
+    c.if-depth-deep.false c.if-worst-far.false)

@@ -123,8 +123,8 @@ pub loop-i-preserved : goal.loop-i-preserved
 loop-i-preserved c =
     let O = c.requires.0 in
     let (falls, many) = record_is (goal.at.loop-i-preserved c).After-record_at-record in
-    laying_more O c.loop-i.invariant c.loop-i-test.true c.state_at-s.result c.row_above.result c.record_at-record.result.count c.head_class.result c.state_at-s.ensures
-    (c.row_above.ensures ∙ row_above_lem c.record_at-record.result.fallback ∙ ap row_of falls) many c.head_class.ensures (search rules)
+    laying_more O c.loop-i.invariant c.loop-i-test.true c.state_at-s.result c.unwrap_or.result c.record_at-record.result.count c.head_class.result c.state_at-s.ensures
+    (c.unwrap_or.ensures ∙ row_above_lem c.record_at-record.result.fallback ∙ ap row_of falls) many c.head_class.ensures (search rules)
 
 pub returns : goal.returns
 returns c = laying_done c.requires.0 c.loop-i.invariant c.loop-i-test.false

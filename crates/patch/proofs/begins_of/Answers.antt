@@ -60,12 +60,6 @@ overflow_mul-at-in-loop-i c = omega (arith, sized (goal.at.overflow_mul-at-in-lo
 pub overflow_add-at-in-loop-i : goal.overflow_add-at-in-loop-i
 overflow_add-at-in-loop-i c = omega (arith, sized (goal.at.overflow_add-at-in-loop-i c).After-records_at-records, (turned (goal.at.overflow_add-at-in-loop-i c).After-get16).at_in)
 
-pub overflow_add-i : goal.overflow_add-i
-overflow_add-i c = omega (arith, c.loop-i-test.true, sized (goal.at.overflow_add-i c).After-records_at-records)
-
-pub loop-i-smaller : goal.loop-i-smaller
-loop-i-smaller c = omega (arith, c.loop-i-test.true)
-
 pub loop-i-preserved : goal.loop-i-preserved
 loop-i-preserved c = turned (goal.at.loop-i-preserved c).After-get16
 

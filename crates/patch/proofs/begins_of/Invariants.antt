@@ -7,6 +7,3 @@ use Rattle.patch.proofs.begins_of.Given as goal
 
 abbrev pub invariant-loop-i : goal.invariant-loop-i
 invariant-loop-i l = Begun (λ i. entry_at l.x i 0) 65 (length l.x) l.p l.at l.begins l.i
-
-abbrev pub decreases-loop-i : goal.decreases-loop-i
-decreases-loop-i l = l.p - l.i

@@ -11,7 +11,7 @@ use Rattle.paper.proofs.Tests.{or_both, not_differ}
 use Rattle.words.proofs.Lent.{fits_bytes}
 use Rattle.patch.proofs.Shapes.{shape_short, shape_listed, shape_length, shape_trailer, shape_check}
 use Rattle.patch.proofs.shape_bad.Goals as goal
-use Rattle.patch.proofs.shape_bad.Goals.{After-get32-q, Else-trailer_bad}
+use Rattle.patch.proofs.shape_bad.Goals.{then-p-lt1-via-then-p-lt1, then-p-lt1-via-else-p-lt1+then-p-gt64, After-get32-q, Else-trailer_bad}
 
 -- The patch.
 abbrev bytes : After-get32-q → List ℕ
@@ -25,10 +25,11 @@ pub returns-then-x-lt22 : goal.returns-then-x-lt22
 returns-then-x-lt22 c = shape_short c.args.x.now c.if-x-lt22.true
 
 pub returns-then-p-lt1 : goal.returns-then-p-lt1
-returns-then-p-lt1 c = shape_listed c.args.x.now c.if-x-lt22.false c.get16-p.result c.get16-p.ensures (inl c.if-p-lt1.true)
-
-pub returns-then-p-gt64 : goal.returns-then-p-gt64
-returns-then-p-gt64 c = shape_listed c.args.x.now c.if-x-lt22.false c.get16-p.result c.get16-p.ensures (inr c.if-p-gt64.true)
+returns-then-p-lt1 c =
+    elim c.then-p-lt1.branch [
+      | then-p-lt1-via-then-p-lt1 w ↦ shape_listed c.args.x.now c.if-x-lt22.false c.get16-p.result c.get16-p.ensures (inl w.if-p-lt1.true)
+      | then-p-lt1-via-else-p-lt1+then-p-gt64 w ↦ shape_listed c.args.x.now c.if-x-lt22.false c.get16-p.result c.get16-p.ensures (inr w.if-p-gt64.true)
+    ]
 
 pub returns-then-x-p : goal.returns-then-x-p
 returns-then-x-p c = shape_length (bytes (goal.at.returns-then-x-p c).After-get32-q) c.if-x-lt22.false c.get16-p.result c.get16-p.ensures c.if-p-lt1.false c.if-p-gt64.false c.get32-q.result c.get32-q.ensures c.if-x-p.true

@@ -5,7 +5,4 @@ use Rattle.patch.proofs.Over.{Over}
 use Rattle.patch.proofs.slots_of.Given as goal
 
 abbrev pub invariant-loop-i : goal.invariant-loop-i
-invariant-loop-i l = (l.i ≤ l.p) × Over l.x (λ i. i + 1) (replicate 512 0) l.slots l.i
-
-abbrev pub decreases-loop-i : goal.decreases-loop-i
-decreases-loop-i l = l.p - l.i
+invariant-loop-i l = Over l.x (λ i. i + 1) (replicate 512 0) l.slots l.i

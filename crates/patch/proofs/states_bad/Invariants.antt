@@ -13,7 +13,4 @@ abbrev pub wrong : List ℕ → ℕ → ℕ → Bool
 wrong x n i = state_falls x i || leb n (state_at_of x i)
 
 abbrev pub invariant-loop-i : goal.invariant-loop-i
-invariant-loop-i l = (l.i ≤ l.p) × (any l.i (wrong l.x l.n) ≡ false)
-
-abbrev pub decreases-loop-i : goal.decreases-loop-i
-decreases-loop-i l = l.p - l.i
+invariant-loop-i l = any l.i (wrong l.x l.n) ≡ false

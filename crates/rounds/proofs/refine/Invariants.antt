@@ -1,10 +1,6 @@
--- The invariant of the loop: the names are those after i rounds.
-use Prim.Native.Nat.{◌-◌, ◌≤◌}
+-- The invariant of the loop: the names are those after as many rounds.
 use Rattle.reduction.specs.Named.{Named}
 use Rattle.rounds.proofs.refine.Given as goal
 
 abbrev pub invariant-loop-i : goal.invariant-loop-i
-invariant-loop-i l = (l.i ≤ l.n) × Named l.t l.i l.name
-
-abbrev pub decreases-loop-i : goal.decreases-loop-i
-decreases-loop-i l = l.n - l.i
+invariant-loop-i l = Named l.table.table.bytes.now l._i l.name

@@ -1,12 +1,11 @@
 -- The counts of any input give a length of 280 or more, which fits, and may lie behind the input's end, as it does where that comes before the end of the counts of labels.
-use mathlib.Core.Path.{◌≡◌, ap, ◌∙◌}
+use mathlib.Core.Path.{◌≡◌, ap, ap₂, ◌∙◌}
 use mathlib.Core.List.{List}
 use Prim.Native.Nat.{ℕ, ◌+◌, ◌*◌, ◌≤◌, ◌<◌}
 use native.Mathlib.Omega.{arith}
-use Rattle.paper.specs.Labels.{states_in_word}
+use Rattle.paper.specs.Labels.{edition_of, labels_behind, states_in_word}
 use Rattle.paper.specs.Image.{states, behind}
 use Rattle.paper.specs.Programs.{image_end_of}
-use Rattle.labels.proofs.Editions.{behind_named}
 use Rattle.serving.proofs.Cut.{cut_whole, cut_inside}
 use Rattle.serving.proofs.image_end.Goals as goal
 use Rattle.serving.proofs.image_end.Goals.{After-behind-held, After-get32-m, After-states_of-n}
@@ -22,7 +21,8 @@ states_are c = c.states_of-n.ensures ∙ ap states_in_word c.get16-word.ensures
 -- So is the number of labels behind their counts.
 held_is : (c : After-behind-held) → c.behind-held.result ≡ behind (bytes (goal.at.After-behind-held c).After-states_of-n)
 held_is c =
-    c.behind-held.ensures.0 ∙ behind_named (bytes (goal.at.After-behind-held c).After-states_of-n) 268 (states_are (goal.at.After-behind-held c).After-states_of-n) c.get16-word.ensures
+    let input = bytes (goal.at.After-behind-held c).After-states_of-n in
+    c.behind-held.ensures.0 ∙ ap₂ (labels_behind input 268) (states_are (goal.at.After-behind-held c).After-states_of-n) (c.of.ensures ∙ ap edition_of c.get16-word.ensures)
 
 -- What is computed is the length that they give.
 given : (c : After-get32-m)

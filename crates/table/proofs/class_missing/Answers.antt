@@ -1,12 +1,7 @@
-use mathlib.Core.Path.{◌≡◌, refl, sym, ap, ◌∙◌}
-use mathlib.Core.Bool.{not}
-use native.Mathlib.Omega.{arith}
+use Rattle.std.proofs.Common.{◌≡◌, not, sym, ap, ◌∙◌, arith}
 use Rattle.paper.proofs.Below.{any_more, any_found}
 use Rattle.table.proofs.class_missing.Invariants.{missing}
 use Rattle.table.proofs.class_missing.Goals as goal
-
-pub loop-c-init : goal.loop-c-init
-loop-c-init c = (omega arith, refl)
 
 pub returns-then-not-seen-c : goal.returns-then-not-seen-c
 returns-then-not-seen-c c =
@@ -16,7 +11,7 @@ returns-then-not-seen-c c =
 pub loop-c-preserved : goal.loop-c-preserved
 loop-c-preserved c =
     let a = c.args in
-    (omega arith, any_more c.loop-c.c (missing a.b.now a.at) c.loop-c.invariant.1 (ap not (sym (c.classes_seen-seen.ensures c.loop-c.c (omega arith))) ∙ (ap not c.if-not-seen-c.false)))
+    any_more c.loop-c.c (missing a.b.now a.at) c.loop-c.invariant (ap not (sym (c.classes_seen-seen.ensures c.loop-c.c (omega arith))) ∙ (ap not c.if-not-seen-c.false))
 
 pub returns : goal.returns
-returns c = let all : c.loop-c.c ≡ c.args.k = omega arith in sym (rw all at c.loop-c.invariant.1)
+returns c = let all : c.loop-c.c ≡ c.args.k = omega arith in sym (rw all at c.loop-c.invariant)

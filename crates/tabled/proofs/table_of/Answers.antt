@@ -1,69 +1,36 @@
 -- What is counted gives the length; a shorter room is refused, any other is filled.
-use mathlib.Core.Path.{◌≡◌}
-use Prim.Native.Nat.{◌+◌, ◌*◌, ◌≤◌}
-use native.Mathlib.Omega.{arith}
-use lib.ListN.{get_or}
+use Rattle.std.proofs.Common.{◌≡◌, ◌+◌, ◌*◌, ◌≤◌, get_or, arith}
 use Rattle.paper.specs.Below.{sum}
 use Rattle.tabled.specs.Sized.{Sized}
-use Rattle.tabled.proofs.Ways.{held_names, not_long, room_short, room_enough, room-filled}
+use Rattle.tabled.proofs.Ways.{not_long, room_short, room_enough, room-filled}
 use Rattle.tabled.proofs.table_of.Goals as goal
 use Rattle.tabled.proofs.table_of.Goals.{After-sum_of-held}
 
 -- What is counted.
-sized : (g : After-sum_of-held) → let a = g.args in
-    Sized a.list.now a.starts.now a.count a.n a.k a.from.now a.long.now g.counts_of-counts.result
+sized : (g : After-sum_of-held) → let a = g.args in let n = a.named.now.names.now in
+    Sized a.named.now.list.now.bytes.now a.named.now.list.now.starts a.named.now.list.now.count n.count a.classes.now.count n.from n.long g.counts-counts.result
 sized g =
-    let H = g.requires.2 in
-    record { begun = g.requires.0; states_are = H.counted; classes_are = g.requires.3; named = H.named; counted = g.counts_of-counts.ensures.filled }
+    let H = g.requires.0 in
+    record { begun = g.args.named.now.list.now.begun; states_are = H.counted; classes_are = g.requires.1; named = H.named; counted = g.counts-counts.ensures }
 
 -- The table is not long.
-short : (g : After-sum_of-held) → let a = g.args in (2 * (a.n * a.k) ≤ 262144) × (2 * g.sum_of-held.result ≤ 65536) × (a.n ≤ 512)
+short : (g : After-sum_of-held) → let n = g.args.named.now.names.now.count in (2 * (n * g.args.classes.now.count) ≤ 262144) × (2 * g.sum_of-held.result ≤ 65536) × (n ≤ 512)
 short g =
-    let (p, q) = not_long (sized g) g.requires.2.few in
-    (p, omega (arith, g.sum_of-held.ensures), g.requires.2.few)
+    let (p, q) = not_long (sized g) g.requires.0.few in
+    (p, omega (arith, g.sum_of-held.ensures), g.requires.0.few)
 
 -- The length that was reckoned.
-reckoned : (g : After-sum_of-held) → let a = g.args in
-    262 + 2 * a.n + 2 * g.sum_of-held.result + 2 * (a.n * a.k) ≡ 262 + 2 * a.n + 2 * sum a.n (λ s. get_or g.counts_of-counts.result s 0) + 2 * (a.n * a.k)
+reckoned : (g : After-sum_of-held) → let n = g.args.named.now.names.now.count in let k = g.args.classes.now.count in
+    262 + 2 * n + 2 * g.sum_of-held.result + 2 * (n * k) ≡ 262 + 2 * n + 2 * sum n (λ s. get_or g.counts-counts.result s 0) + 2 * (n * k)
 reckoned g = omega (arith, g.sum_of-held.ensures)
-
-pub counts_of-counts-requires : goal.counts_of-counts-requires
-counts_of-counts-requires c = (c.requires.0, held_names c.requires.2)
-
-pub sum_of-held-requires : goal.sum_of-held-requires
-sum_of-held-requires c = c.requires.2.few
-
-pub overflow_mul-whole : goal.overflow_mul-whole
-overflow_mul-whole c = omega (arith, short (goal.at.overflow_mul-whole c).After-sum_of-held)
-
-pub overflow_add-whole : goal.overflow_add-whole
-overflow_add-whole c = omega (arith, short (goal.at.overflow_add-whole c).After-sum_of-held)
-
-pub overflow_mul-whole-2 : goal.overflow_mul-whole-2
-overflow_mul-whole-2 c = omega (arith, short (goal.at.overflow_mul-whole-2 c).After-sum_of-held)
-
-pub overflow_add-whole-2 : goal.overflow_add-whole-2
-overflow_add-whole-2 c = omega (arith, short (goal.at.overflow_add-whole-2 c).After-sum_of-held)
-
-pub overflow_mul-whole-3 : goal.overflow_mul-whole-3
-overflow_mul-whole-3 c = omega (arith, short (goal.at.overflow_mul-whole-3 c).After-sum_of-held)
-
-pub overflow_mul-whole-4 : goal.overflow_mul-whole-4
-overflow_mul-whole-4 c = omega (arith, short (goal.at.overflow_mul-whole-4 c).After-sum_of-held)
-
-pub overflow_add-whole-3 : goal.overflow_add-whole-3
-overflow_add-whole-3 c = omega (arith, short (goal.at.overflow_add-whole-3 c).After-sum_of-held)
-
-pub not_built-requires : goal.not_built-requires
-not_built-requires c = tt
 
 pub returns-then-room-whole : goal.returns-then-room-whole
 returns-then-room-whole c =
-    room_short (sized (goal.at.returns-then-room-whole c).After-sum_of-held) c.requires.2.few c.args.room.now _ (reckoned (goal.at.returns-then-room-whole c).After-sum_of-held) _ _ c.if-room-whole.true c.not_built.ensures.0 c.not_built.ensures.1
+    room_short (sized (goal.at.returns-then-room-whole c).After-sum_of-held) c.requires.0.few c.args.room.now _ (reckoned (goal.at.returns-then-room-whole c).After-sum_of-held) c.if-room-whole.true
 
 pub write_table-requires : goal.write_table-requires
 write_table-requires c =
-    (c.requires.0, c.requires.1, c.requires.2, sized (goal.at.write_table-requires c).After-sum_of-held, c.requires.4, room_enough (sized (goal.at.write_table-requires c).After-sum_of-held) c.requires.2.few c.args.room.now _ (reckoned (goal.at.write_table-requires c).After-sum_of-held) c.if-room-whole.false)
+    (c.requires.0, sized (goal.at.write_table-requires c).After-sum_of-held, c.requires.2, room_enough (sized (goal.at.write_table-requires c).After-sum_of-held) c.requires.0.few c.args.room.now _ (reckoned (goal.at.write_table-requires c).After-sum_of-held) c.if-room-whole.false)
 
 pub overflow_cast-result : goal.overflow_cast-result
 overflow_cast-result c =
@@ -71,4 +38,4 @@ overflow_cast-result c =
 
 pub returns : goal.returns
 returns c =
-    room-filled (sized (goal.at.returns c).After-sum_of-held) c.requires.2.few c.args.room.now _ (reckoned (goal.at.returns c).After-sum_of-held) _ c.if-room-whole.false c.write_table.ensures
+    room-filled (sized (goal.at.returns c).After-sum_of-held) c.requires.0.few c.args.room.now _ (reckoned (goal.at.returns c).After-sum_of-held) _ c.if-room-whole.false c.write_table.ensures

@@ -1,6 +1,4 @@
-use mathlib.Core.Path.{◌≡◌, refl}
-use mathlib.Core.Logic.{inl, inr}
-use native.Mathlib.Omega.{arith}
+use Rattle.std.proofs.Common.{◌≡◌, refl, inl, inr, arith}
 use Rattle.tally.proofs.Counting.{counted}
 use Rattle.tally.proofs.count_of.Goals as goal
 use Rattle.tally.proofs.count_of.Goals.{else-keeps, then-keeps}
@@ -8,16 +6,13 @@ use Rattle.tally.proofs.count_of.Goals.{else-keeps, then-keeps}
 pub loop-c-init : goal.loop-c-init
 loop-c-init c = (omega arith, refl, omega arith)
 
-pub keeps-requires : goal.keeps-requires
-keeps-requires c = (c.requires.0, c.requires.1, c.loop-c-test.true, c.requires.2)
-
 pub overflow_add-count : goal.overflow_add-count
-overflow_add-count c = omega (arith, c.loop-c.invariant.2, c.requires.0.few_classes)
+overflow_add-count c = omega (arith, c.loop-c.invariant.2, c.args.t.now.counted.few_classes)
 
 pub loop-c-preserved : goal.loop-c-preserved
 loop-c-preserved c =
     let a = c.args in
-    counted a.t.now a.k a.s a.d c.loop-c.c c.loop-c.count c.if-keeps.count c.keeps.result c.loop-c.invariant c.loop-c-test.true c.keeps.ensures
+    counted a.t.now.bytes.now a.t.now.k a.s a.d c.loop-c.c c.loop-c.count c.if-keeps.count c.keeps.result c.loop-c.invariant c.loop-c-test.true c.keeps.ensures
     (elim c.if-keeps.branch [
       | then-keeps w ↦ inl (w.if-keeps.true, w.count-is)
       | else-keeps w ↦ inr (w.if-keeps.false, w.count-is)
@@ -25,5 +20,5 @@ loop-c-preserved c =
 
 pub returns : goal.returns
 returns c =
-    let e : c.loop-c.c ≡ c.args.k = omega arith in
+    let e : c.loop-c.c ≡ c.args.t.now.k = omega arith in
     rw e at c.loop-c.invariant.1

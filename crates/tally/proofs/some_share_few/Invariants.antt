@@ -1,9 +1,5 @@
 -- The loop's invariant: none of the states so far shares fewer than two classes with its default.
-use mathlib.Core.Path.{◌≡◌}
-use mathlib.Core.Bool.{Bool, false}
-use mathlib.Core.List.{List}
-use Prim.Native.Nat.{ℕ, ◌-◌, ◌≤◌}
-use lib.ListN.{get_or}
+use Rattle.std.proofs.Common.{◌≡◌, Bool, false, List, ℕ, get_or}
 use Rattle.paper.specs.Below.{any}
 use Rattle.paper.specs.Image.{default_from_of}
 use Rattle.tally.specs.Kept.{shares_few_of}
@@ -14,7 +10,4 @@ abbrev pub few : List ℕ → List ℕ → ℕ → ℕ → Bool
 few def counts k s = shares_few_of k (get_or counts s 0) (default_from_of (get_or def s 0))
 
 abbrev pub invariant-loop-s : goal.invariant-loop-s
-invariant-loop-s l = (l.s ≤ l.n) × (any l.s (few l.def l.counts l.k) ≡ false)
-
-abbrev pub decreases-loop-s : goal.decreases-loop-s
-decreases-loop-s l = l.n - l.s
+invariant-loop-s l = any l.s (few l.def l.counts l.k) ≡ false

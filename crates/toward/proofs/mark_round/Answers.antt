@@ -1,50 +1,47 @@
-use Prim.Native.Nat.{◌+◌}
-use mathlib.Core.Path.{◌≡◌}
-use native.Mathlib.Omega.{arith}
-use Rattle.toward.proofs.Marks.{marked_none, round_hit, round_passed, has_first}
+use Rattle.std.proofs.Common.{refl, ◌∙◌, arith, rules, ◌+◌}
+use Rattle.toward.specs.Marked.{level_in}
+use Rattle.toward.proofs.Marks.{round_hit, round_sought, next_behind, next_place, has_first}
 use Rattle.toward.proofs.mark_round.Goals as goal
 
-pub next_at-first-requires : goal.next_at-first-requires
-next_at-first-requires c = let p = c.requires in (omega (arith, p.0.few_states, p.1), omega arith)
-
-pub loop-s-init : goal.loop-s-init
-loop-s-init c =
+pub loop-next-init : goal.loop-next-init
+loop-next-init c =
     let a = c.args in
+    let n = a.t.now.table.n in
     let old = a.levels.now in
-    let found = c.next_at-first.ensures in
-    (found.within, round_passed a.t.now old old a.level c.requires.3 0 c.next_at-first.result (omega arith) found.passed (marked_none old (a.level + 1) c.requires.4), found.found)
+    let found = c.next_at-first in
+    record {
+      place = next_place n (level_in old) 0 a.level found.result found.ensures;
+      marks = round_sought a.t.now.table.bytes.now old old a.level n c.requires 0 found.result (omega arith) found.ensures (record { long = search rules; each_is = λ x. refl });
+    }
 
-pub overflow_add-level : goal.overflow_add-level
-overflow_add-level c = omega (arith, c.requires.3)
+pub loop-next-smaller : goal.loop-next-smaller
+loop-next-smaller c =
+    let n = c.args.t.now.table.n in
+    let place = rw c.in-Some.is at c.loop-next.invariant.place in
+    let found = c.next_at-next in
+    let behind = next_behind n (level_in c.mark_row.new.levels) (c.in-Some.s + 1) c.args.level found.result (omega (arith, place.0)) found.ensures in
+    rw c.in-Some.is (omega (arith, behind, place.0))
 
-pub mark_row-requires : goal.mark_row-requires
-mark_row-requires c =
-    let p = c.requires in
-    (p.0, p.1, p.2, c.loop-s-test.true, c.loop-s.invariant.1.long)
-
-pub overflow_add-s : goal.overflow_add-s
-overflow_add-s c = omega (arith, c.loop-s-test.true)
-
-pub next_at-s-requires : goal.next_at-s-requires
-next_at-s-requires c =
-    let p = c.requires in
-    (omega (arith, p.0.few_states, p.1), omega (arith, c.loop-s-test.true))
-
-pub loop-s-smaller : goal.loop-s-smaller
-loop-s-smaller c = omega (arith, c.next_at-s.ensures.behind, c.loop-s-test.true)
-
-pub loop-s-preserved : goal.loop-s-preserved
-loop-s-preserved c =
-    let l = c.loop-s in
+pub loop-next-preserved : goal.loop-next-preserved
+loop-next-preserved c =
     let a = c.args in
-    let t = a.t.now in
+    let t = a.t.now.table.bytes.now in
+    let n = a.t.now.table.n in
     let old = a.levels.now in
-    let found = c.next_at-s.ensures in
-    let taken = round_hit t old l.levels a.level l.s c.requires.3 l.invariant.1 _ (l.invariant.2 c.loop-s-test.true) c.mark_row.ensures in
-    (found.within, round_passed t old _ a.level c.requires.3 (l.s + 1) c.next_at-s.result found.behind found.passed taken, found.found)
+    let l = c.loop-next in
+    let s = c.in-Some.s in
+    let place = rw c.in-Some.is at l.invariant.place in
+    let before = rw c.in-Some.is at l.invariant.marks in
+    let new = c.mark_row.new.levels in
+    let found = c.next_at-next in
+    record {
+      place = next_place n (level_in new) (s + 1) a.level found.result found.ensures;
+      marks = round_sought t old new a.level n c.requires (s + 1) found.result (omega (arith, place.0)) found.ensures
+          (round_hit t old l.levels a.level s c.requires before new place.1 c.mark_row.ensures);
+    }
 
 pub returns : goal.returns
 returns c =
     let a = c.args in
-    let e : c.loop-s.s ≡ a.n = omega (arith, c.loop-s.invariant.0, c.loop-s-test.false) in
-    (rw e at c.loop-s.invariant.1, has_first a.levels.now a.level a.n c.next_at-first.result c.next_at-first.ensures)
+    let found = c.next_at-first in
+    (rw c.in_default.is at c.loop-next.invariant.marks, c.is_some.ensures ∙ has_first a.levels.now a.level a.t.now.table.n found.result found.ensures)

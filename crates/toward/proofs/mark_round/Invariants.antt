@@ -1,11 +1,13 @@
--- The invariant of the loop: the rows of the states before s that have this level are marked, and s has it too, or there is none left.
-use Prim.Native.Nat.{◌+◌, ◌-◌, ◌≤◌, ◌<◌}
-use mathlib.Core.Path.{◌≡◌}
+-- The invariant of the loop: the rows of the states of this level before the next one are marked, all of them where there is none.
+use Rattle.std.proofs.Common.{◌≡◌, ◌+◌, ◌-◌, ◌<◌, IfSome, unwrap_or}
 use Rattle.toward.specs.Marked.{level_in, Marked, finds}
 use Rattle.toward.proofs.mark_round.Given as goal
 
-abbrev pub invariant-loop-s : goal.invariant-loop-s
-invariant-loop-s l = (l.s ≤ l.n) × Marked l.initial.levels l.levels (finds l.t l.initial.levels l.level l.s) (l.level + 1) × (l.s < l.n → level_in l.levels l.s ≡ l.level)
+abbrev pub invariant-loop-next : goal.invariant-loop-next
+invariant-loop-next l = record {
+  place : IfSome l.next (λ s. (s < l.n) × (level_in l.levels s ≡ l.level));
+  marks : Marked l.initial.levels l.levels (finds l.t.table.bytes.now l.initial.levels l.level (unwrap_or l.next l.n)) (l.level + 1);
+}
 
-abbrev pub decreases-loop-s : goal.decreases-loop-s
-decreases-loop-s l = l.n - l.s
+abbrev pub decreases-loop-next : goal.decreases-loop-next
+decreases-loop-next l = l.n - unwrap_or l.next l.n

@@ -1,11 +1,7 @@
 -- The invariant of the loop: the next states on the classes before c that had no level are marked.
-use Prim.Native.Nat.{◌-◌, ◌≤◌}
 use Rattle.toward.specs.Marked.{Marked}
 use Rattle.toward.proofs.Marks.{row_leads}
 use Rattle.toward.proofs.mark_row.Given as goal
 
 abbrev pub invariant-loop-c : goal.invariant-loop-c
-invariant-loop-c l = (l.c ≤ l.k) × Marked l.initial.levels l.levels (row_leads l.t l.s l.c) l.mark
-
-abbrev pub decreases-loop-c : goal.decreases-loop-c
-decreases-loop-c l = l.k - l.c
+invariant-loop-c l = Marked l.initial.levels l.levels (row_leads l.t.table.bytes.now l.s l.c) l.mark

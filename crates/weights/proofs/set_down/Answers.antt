@@ -1,5 +1,5 @@
 -- Both writes are one pair more set down.
-use native.Mathlib.Omega.{arith}
+use Rattle.std.proofs.Common.{arith}
 use Rattle.weights.proofs.Laid.{lays_one}
 use Rattle.weights.proofs.set_down.Goals as goal
 
@@ -7,6 +7,5 @@ pub returns : goal.returns
 returns c =
     let a = c.args in
     let p = c.requires in
-    let w = c.weight_of-w in
-    let wide = c.wide.ensures in
-    rw wide.0 (lays_one a.weights.now a.seen.now a.u a.v a.same w.result p.0 p.1 p.2 p.3 (omega (arith, wide.0, wide.1)) w.ensures)
+    let w = c.saturating_sub-w in
+    lays_one a.weights.now a.seen.now a.u a.v a.same w.result c.told-weights c.told-seen p.0 p.1 (omega arith) w.ensures

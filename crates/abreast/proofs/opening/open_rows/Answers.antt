@@ -121,8 +121,8 @@ pub loop-s-preserved : goal.loop-s-preserved
 loop-s-preserved c =
     let P = c.requires.0 in
     let (falls, many) = record_is (goal.at.loop-s-preserved c).After-record_at-record in
-    opening_more P c.loop-s.invariant c.loop-s-test.true c.row_above.result c.record_at-record.result.count c.head_class.result
-    (c.row_above.ensures ∙ row_above_lem c.record_at-record.result.fallback ∙ ap row_of (sym falls)) many c.head_class.ensures (search rules)
+    opening_more P c.loop-s.invariant c.loop-s-test.true c.unwrap_or.result c.record_at-record.result.count c.head_class.result
+    (c.unwrap_or.ensures ∙ row_above_lem c.record_at-record.result.fallback ∙ ap row_of (sym falls)) many c.head_class.ensures (search rules)
 
 pub returns : goal.returns
 returns c = opening_done c.requires.0 c.loop-s.invariant c.loop-s-test.false

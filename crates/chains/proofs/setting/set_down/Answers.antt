@@ -36,7 +36,7 @@ loop-i-preserved c =
       omega arith,
       l.invariant.1,
       l.invariant.2,
-      at_hand_next c.requires l.i l.cur _ h l.invariant.3 c.wide-cur.ensures,
+      at_hand_next c.requires l.i l.cur _ h l.invariant.3 refl,
       marks_more c.requires l.order l.place l.i _ l.cur h refl
           (l.invariant.3 h).0 l.invariant.4,
     )

@@ -12,13 +12,13 @@ use Rattle.chains.proofs.setting.set_out.Goals as goal
 pub loop-s-init : goal.loop-s-init
 loop-s-init c = (omega arith, omega arith, laid_none _ _ c.requires.0 c.requires.2, λ q h. absurd (omega arith))
 
-pub climb-t-requires : goal.climb-t-requires
-climb-t-requires c = (omega arith, omega arith, c.requires.1)
+pub climb-requires : goal.climb-requires
+climb-requires c = (omega arith, omega arith, c.requires.1)
 
-pub returns-then-n-t : goal.returns-then-n-t
-returns-then-n-t c =
+pub returns-in-None : goal.returns-in-None
+returns-in-None c =
     let l = c.loop-s in
-    (sym (endless-found (defaults_view c.args.n c.args.def.now) l.s (omega arith) (c.climb-t.ensures.1 c.if-n-t.true)), λ e. absurd (true≢false e))
+    (sym (endless-found (defaults_view c.args.n c.args.def.now) l.s (omega arith) c.in-None.ensures), λ e. absurd (true≢false e))
 
 pub set_down-requires : goal.set_down-requires
 set_down-requires c =
@@ -28,7 +28,7 @@ set_down-requires c =
       range = c.requires.1;
       laid = l.invariant.2;
       below = omega arith;
-      climbed = c.climb-t.ensures.0 c.if-n-t.false;
+      climbed = c.in-Some.ensures.1;
     }
 
 pub loop-s-preserved : goal.loop-s-preserved

@@ -14,7 +14,7 @@ answered c =
     row_read c.args.b.now c.requires.0 c.loop-s.s (omega (arith, c.requires.2, c.loop-s-test.true)) c.args.k c.requires.3 _ _ c.entries_of.ensures c.row_bad.ensures
 
 pub loop-s-init : goal.loop-s-init
-loop-s-init c = (omega arith, refl)
+loop-s-init c = refl
 
 pub entries_of-requires : goal.entries_of-requires
 entries_of-requires c =
@@ -26,9 +26,9 @@ returns-then-row_bad c =
 
 pub loop-s-preserved : goal.loop-s-preserved
 loop-s-preserved c =
-    (omega arith, any_more c.loop-s.s (wrong c.args.b.now) c.loop-s.invariant.1 (sym (answered (goal.at.loop-s-preserved c).After-row_bad) ∙ c.if-row_bad.false))
+    any_more c.loop-s.s (wrong c.args.b.now) c.loop-s.invariant (sym (answered (goal.at.loop-s-preserved c).After-row_bad) ∙ c.if-row_bad.false)
 
 pub returns : goal.returns
 returns c =
     let all : c.loop-s.s ≡ states c.args.b.now = omega (arith, c.requires.2) in
-    sym (rw all at c.loop-s.invariant.1)
+    sym (rw all at c.loop-s.invariant)

@@ -13,7 +13,4 @@ abbrev pub wrong : List ℕ → ℕ → Bool
 wrong b s = any (count b s) (entry_class_bad (image_view b) s)
 
 abbrev pub invariant-loop-s : goal.invariant-loop-s
-invariant-loop-s l = (l.s ≤ l.n) × (any l.s (wrong l.b) ≡ false)
-
-abbrev pub decreases-loop-s : goal.decreases-loop-s
-decreases-loop-s l = l.n - l.s
+invariant-loop-s l = any l.s (wrong l.b) ≡ false

@@ -6,7 +6,4 @@ use Rattle.contents.proofs.Entries.{next_of}
 use Rattle.contents.proofs.in_entries.next_bad.Given as goal
 
 abbrev pub invariant-loop-j : goal.invariant-loop-j
-invariant-loop-j l = (l.j ≤ l.m) × (l.most ≡ largest l.j (next_of l.b)) × (l.most < 65536)
-
-abbrev pub decreases-loop-j : goal.decreases-loop-j
-decreases-loop-j l = l.m - l.j
+invariant-loop-j l = l.most ≡ largest l.j (next_of l.b)

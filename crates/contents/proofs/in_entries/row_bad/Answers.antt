@@ -8,7 +8,7 @@ use Rattle.contents.specs.Tests.{class_wrong}
 use Rattle.contents.proofs.in_entries.row_bad.Goals as goal
 
 pub loop-j-init : goal.loop-j-init
-loop-j-init c = (omega arith, refl)
+loop-j-init c = refl
 
 pub returns-then-class_bad : goal.returns-then-class_bad
 returns-then-class_bad c =
@@ -18,9 +18,9 @@ returns-then-class_bad c =
 pub loop-j-preserved : goal.loop-j-preserved
 loop-j-preserved c =
     let t = c.args in
-    (omega arith, any_more c.loop-j.j (class_wrong t.k t.row.now) c.loop-j.invariant.1 (sym c.class_bad.ensures ∙ c.if-class_bad.false))
+    any_more c.loop-j.j (class_wrong t.k t.row.now) c.loop-j.invariant (sym c.class_bad.ensures ∙ c.if-class_bad.false)
 
 pub returns : goal.returns
 returns c =
     let all : c.loop-j.j ≡ length c.args.row.now / 4 = omega arith in
-    sym (rw all at c.loop-j.invariant.1)
+    sym (rw all at c.loop-j.invariant)

@@ -8,7 +8,4 @@ use Rattle.contents.specs.Tests.{class_wrong}
 use Rattle.contents.proofs.in_entries.row_bad.Given as goal
 
 abbrev pub invariant-loop-j : goal.invariant-loop-j
-invariant-loop-j l = (l.j ≤ length l.row / 4) × (any l.j (class_wrong l.k l.row) ≡ false)
-
-abbrev pub decreases-loop-j : goal.decreases-loop-j
-decreases-loop-j l = length l.row / 4 - l.j
+invariant-loop-j l = any l.j (class_wrong l.k l.row) ≡ false

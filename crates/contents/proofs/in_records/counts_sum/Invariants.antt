@@ -6,7 +6,4 @@ use Rattle.paper.specs.Image.{count}
 use Rattle.contents.proofs.in_records.counts_sum.Given as goal
 
 abbrev pub invariant-loop-s : goal.invariant-loop-s
-invariant-loop-s l = (l.s ≤ l.n) × (l.total ≡ sum l.s (count l.b)) × (l.total ≤ 65535 * l.s)
-
-abbrev pub decreases-loop-s : goal.decreases-loop-s
-decreases-loop-s l = l.n - l.s
+invariant-loop-s l = (l.total ≡ sum l.s (count l.b)) × (l.total ≤ 65535 * l.s)

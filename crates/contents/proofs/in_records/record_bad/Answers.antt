@@ -5,8 +5,8 @@ use Rattle.contents.proofs.in_records.record_bad.Goals as goal
 pub returns-then-k-count : goal.returns-then-k-count
 returns-then-k-count c = record_high _ _ c.args.read c.if-k-count.true
 
-pub returns-in-Root : goal.returns-in-Root
-returns-in-Root c = record_root _ _ c.args.read c.if-k-count.false c.in-Root.is
+pub returns-in-None : goal.returns-in-None
+returns-in-None c = record_root _ _ c.args.read c.if-k-count.false c.in-None.is
 
-pub returns-in-FallsTo : goal.returns-in-FallsTo
-returns-in-FallsTo c = record_falls _ _ c.args.read _ c.if-k-count.false c.in-FallsTo.is
+pub returns-in-Some : goal.returns-in-Some
+returns-in-Some c = record_falls _ _ c.args.read _ c.if-k-count.false c.in-Some.is

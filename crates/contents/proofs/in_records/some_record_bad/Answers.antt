@@ -14,7 +14,7 @@ answered c =
     record_read c.args.b.now c.args.n c.args.records c.requires.0 c.args.k c.requires.1 c.loop-s.s _ _ c.record_at.ensures c.record_bad.ensures
 
 pub loop-s-init : goal.loop-s-init
-loop-s-init c = (omega arith, refl)
+loop-s-init c = refl
 
 pub returns-then-record_bad : goal.returns-then-record_bad
 returns-then-record_bad c =
@@ -22,9 +22,9 @@ returns-then-record_bad c =
 
 pub loop-s-preserved : goal.loop-s-preserved
 loop-s-preserved c =
-    (omega arith, any_more c.loop-s.s (record_bad_of (image_view c.args.b.now)) c.loop-s.invariant.1 (sym (answered (goal.at.loop-s-preserved c).After-record_bad) ∙ c.if-record_bad.false))
+    any_more c.loop-s.s (record_bad_of (image_view c.args.b.now)) c.loop-s.invariant (sym (answered (goal.at.loop-s-preserved c).After-record_bad) ∙ c.if-record_bad.false)
 
 pub returns : goal.returns
 returns c =
     let all : c.loop-s.s ≡ states c.args.b.now = omega (arith, c.requires.0.states_are) in
-    sym (rw all at c.loop-s.invariant.1)
+    sym (rw all at c.loop-s.invariant)

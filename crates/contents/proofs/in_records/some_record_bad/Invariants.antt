@@ -8,7 +8,4 @@ use Rattle.paper.specs.Image.{image_view}
 use Rattle.contents.proofs.in_records.some_record_bad.Given as goal
 
 abbrev pub invariant-loop-s : goal.invariant-loop-s
-invariant-loop-s l = (l.s ≤ l.n) × (any l.s (record_bad_of (image_view l.b)) ≡ false)
-
-abbrev pub decreases-loop-s : goal.decreases-loop-s
-decreases-loop-s l = l.n - l.s
+invariant-loop-s l = any l.s (record_bad_of (image_view l.b)) ≡ false

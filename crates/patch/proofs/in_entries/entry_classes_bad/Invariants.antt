@@ -17,7 +17,4 @@ abbrev pub wrong : List ℕ → ℕ → ℕ → Bool
 wrong x k i = any (count x i) (test (entries_part_of x i) k)
 
 abbrev pub invariant-loop-i : goal.invariant-loop-i
-invariant-loop-i l = (l.i ≤ l.p) × (any l.i (wrong l.x l.k) ≡ false)
-
-abbrev pub decreases-loop-i : goal.decreases-loop-i
-decreases-loop-i l = l.p - l.i
+invariant-loop-i l = any l.i (wrong l.x l.k) ≡ false

@@ -21,7 +21,7 @@ answered c =
     ∙ ap (λ (m : ℕ). any m (test part c.args.n)) (part_length c.requires.0 i c.loop-i-test.true)
 
 pub loop-i-init : goal.loop-i-init
-loop-i-init c = (omega arith, refl)
+loop-i-init c = refl
 
 pub entries_of-requires : goal.entries_of-requires
 entries_of-requires c = (c.requires.0, c.requires.1, c.loop-i-test.true)
@@ -31,18 +31,12 @@ returns-then-row_next_bad c =
     let t = c.args in
     sym (any_found t.p c.loop-i.i (wrong t.x.now t.n) c.loop-i-test.true (sym (answered (goal.at.returns-then-row_next_bad c).After-row_next_bad) ∙ c.if-row_next_bad.true))
 
-pub overflow_add-i : goal.overflow_add-i
-overflow_add-i c = omega (arith, c.loop-i-test.true)
-
-pub loop-i-smaller : goal.loop-i-smaller
-loop-i-smaller c = omega (arith, c.loop-i-test.true)
-
 pub loop-i-preserved : goal.loop-i-preserved
 loop-i-preserved c =
     let t = c.args in
-    (omega (arith, c.loop-i-test.true), any_more c.loop-i.i (wrong t.x.now t.n) c.loop-i.invariant.1 (sym (answered (goal.at.loop-i-preserved c).After-row_next_bad) ∙ c.if-row_next_bad.false))
+    any_more c.loop-i.i (wrong t.x.now t.n) c.loop-i.invariant (sym (answered (goal.at.loop-i-preserved c).After-row_next_bad) ∙ c.if-row_next_bad.false)
 
 pub returns : goal.returns
 returns c =
-    let all : c.loop-i.i ≡ c.args.p = omega (arith, c.loop-i.invariant.0, c.loop-i-test.false) in
-    sym (rw all at c.loop-i.invariant.1)
+    let all : c.loop-i.i ≡ c.args.p = omega (arith, c.loop-i-test.false) in
+    sym (rw all at c.loop-i.invariant)

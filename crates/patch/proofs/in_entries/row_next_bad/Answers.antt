@@ -10,7 +10,7 @@ use Rattle.patch.proofs.in_entries.row_next_bad.Invariants.{wrong}
 use Rattle.patch.proofs.in_entries.row_next_bad.Goals as goal
 
 pub loop-j-init : goal.loop-j-init
-loop-j-init c = (omega arith, refl)
+loop-j-init c = refl
 
 pub returns-then-n-get16 : goal.returns-then-n-get16
 returns-then-n-get16 c =
@@ -20,9 +20,9 @@ returns-then-n-get16 c =
 pub loop-j-preserved : goal.loop-j-preserved
 loop-j-preserved c =
     let t = c.args in
-    (omega arith, any_more c.loop-j.j (wrong t.row.now t.n) c.loop-j.invariant.1 (ap (leb t.n) (sym c.get16.ensures) ∙ lt-leb t.n c.get16.result c.if-n-get16.false))
+    any_more c.loop-j.j (wrong t.row.now t.n) c.loop-j.invariant (ap (leb t.n) (sym c.get16.ensures) ∙ lt-leb t.n c.get16.result c.if-n-get16.false)
 
 pub returns : goal.returns
 returns c =
     let all : c.loop-j.j ≡ length c.args.row.now / 4 = omega arith in
-    sym (rw all at c.loop-j.invariant.1)
+    sym (rw all at c.loop-j.invariant)

@@ -14,7 +14,4 @@ abbrev pub wrong : List ℕ → ℕ → ℕ → Bool
 wrong row n j = leb n (number16 row (4 * j + 2))
 
 abbrev pub invariant-loop-j : goal.invariant-loop-j
-invariant-loop-j l = (l.j ≤ length l.row / 4) × (any l.j (wrong l.row l.n) ≡ false)
-
-abbrev pub decreases-loop-j : goal.decreases-loop-j
-decreases-loop-j l = length l.row / 4 - l.j
+invariant-loop-j l = any l.j (wrong l.row l.n) ≡ false

@@ -19,13 +19,13 @@ sized c = (c.records_at-records.ensures.1, c.requires.small, omega (arith, c.req
 summed : (c : After-get16)
     → c.loop-i.total + c.get16.result ≡ sum (c.loop-i.i + 1) (count c.args.x.now)
 unfolding count
-summed c = rw (add-one c.loop-i.i, ← c.records_at-records.ensures.0, ← c.get16.ensures, ← c.loop-i.invariant.1) refl
+summed c = rw (add-one c.loop-i.i, ← c.records_at-records.ensures.0, ← c.get16.ensures, ← c.loop-i.invariant.0) refl
 
 pub records_at-records-requires : goal.records_at-records-requires
 records_at-records-requires c = c.requires
 
 pub loop-i-init : goal.loop-i-init
-loop-i-init c = (omega arith, refl, omega arith)
+loop-i-init c = (refl, omega arith)
 
 pub overflow_mul-i : goal.overflow_mul-i
 overflow_mul-i c = omega (arith, sized (goal.at.overflow_mul-i c).After-records_at-records, c.loop-i-test.true)
@@ -39,17 +39,11 @@ overflow_add-records-in-loop-i c = omega (arith, sized (goal.at.overflow_add-rec
 pub get16-requires : goal.get16-requires
 get16-requires c = omega (arith, sized (goal.at.get16-requires c).After-records_at-records, c.loop-i-test.true)
 
-pub overflow_add-i : goal.overflow_add-i
-overflow_add-i c = omega (arith, c.loop-i-test.true, sized (goal.at.overflow_add-i c).After-records_at-records)
-
-pub loop-i-smaller : goal.loop-i-smaller
-loop-i-smaller c = omega (arith, c.loop-i-test.true)
-
 pub loop-i-preserved : goal.loop-i-preserved
-loop-i-preserved c = (omega (arith, c.loop-i-test.true), summed (goal.at.loop-i-preserved c).After-get16, search rules)
+loop-i-preserved c = (summed (goal.at.loop-i-preserved c).After-get16, search rules)
 
 pub returns : goal.returns
 returns c =
     let a = c.args in
-    let all : c.loop-i.i ≡ a.p = omega (arith, c.loop-i.invariant.0, c.loop-i-test.false) in
-    c.loop-i.invariant.1 ∙ ap (λ (i : ℕ). sum i (count a.x.now)) all
+    let all : c.loop-i.i ≡ a.p = omega arith in
+    c.loop-i.invariant.0 ∙ ap (λ (i : ℕ). sum i (count a.x.now)) all

@@ -6,7 +6,4 @@ use Rattle.paper.specs.Patch.{count}
 use Rattle.patch.proofs.in_records.counts_sum.Given as goal
 
 abbrev pub invariant-loop-i : goal.invariant-loop-i
-invariant-loop-i l = (l.i ≤ l.p) × (l.total ≡ sum l.i (count l.x)) × (l.total ≤ 65535 * l.i)
-
-abbrev pub decreases-loop-i : goal.decreases-loop-i
-decreases-loop-i l = l.p - l.i
+invariant-loop-i l = (l.total ≡ sum l.i (count l.x)) × (l.total ≤ 65535 * l.i)

@@ -30,7 +30,7 @@ pub records_at-records-requires : goal.records_at-records-requires
 records_at-records-requires c = c.requires
 
 pub loop-i-init : goal.loop-i-init
-loop-i-init c = (omega arith, refl)
+loop-i-init c = refl
 
 pub overflow_mul-i : goal.overflow_mul-i
 overflow_mul-i c = omega (arith, sized (goal.at.overflow_mul-i c).After-records_at-records, c.loop-i-test.true)
@@ -46,18 +46,12 @@ returns-then-record_bad c =
     let t = c.args in
     sym (any_found t.p c.loop-i.i (wrong t.x.now t.n t.k) c.loop-i-test.true (sym (answered (goal.at.returns-then-record_bad c).After-record_bad) ∙ c.if-record_bad.true))
 
-pub overflow_add-i : goal.overflow_add-i
-overflow_add-i c = omega (arith, c.loop-i-test.true, sized (goal.at.overflow_add-i c).After-records_at-records)
-
-pub loop-i-smaller : goal.loop-i-smaller
-loop-i-smaller c = omega (arith, c.loop-i-test.true)
-
 pub loop-i-preserved : goal.loop-i-preserved
 loop-i-preserved c =
     let t = c.args in
-    (omega (arith, c.loop-i-test.true), any_more c.loop-i.i (wrong t.x.now t.n t.k) c.loop-i.invariant.1 (sym (answered (goal.at.loop-i-preserved c).After-record_bad) ∙ c.if-record_bad.false))
+    any_more c.loop-i.i (wrong t.x.now t.n t.k) c.loop-i.invariant (sym (answered (goal.at.loop-i-preserved c).After-record_bad) ∙ c.if-record_bad.false)
 
 pub returns : goal.returns
 returns c =
-    let all : c.loop-i.i ≡ c.args.p = omega (arith, c.loop-i.invariant.0, c.loop-i-test.false) in
-    sym (rw all at c.loop-i.invariant.1)
+    let all : c.loop-i.i ≡ c.args.p = omega (arith, c.loop-i-test.false) in
+    sym (rw all at c.loop-i.invariant)

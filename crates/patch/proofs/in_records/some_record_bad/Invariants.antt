@@ -14,7 +14,4 @@ abbrev pub wrong : List ℕ → ℕ → ℕ → ℕ → Bool
 wrong x n k i = record_wrong n k (record_at_of x (records_at_of x + 4 * i))
 
 abbrev pub invariant-loop-i : goal.invariant-loop-i
-invariant-loop-i l = (l.i ≤ l.p) × (any l.i (wrong l.x l.n l.k) ≡ false)
-
-abbrev pub decreases-loop-i : goal.decreases-loop-i
-decreases-loop-i l = l.p - l.i
+invariant-loop-i l = any l.i (wrong l.x l.n l.k) ≡ false

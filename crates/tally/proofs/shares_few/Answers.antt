@@ -1,9 +1,0 @@
--- 65535 is no default; with any other the count decides.
-use Rattle.chains.proofs.Defaults.{from_none, from_some}
-use Rattle.tally.proofs.shares_few.Goals as goal
-
-pub returns-then-d-eq65535 : goal.returns-then-d-eq65535
-returns-then-d-eq65535 c = rw (from_none _ c.if-d-eq65535.true)
-
-pub returns : goal.returns
-returns c = rw (from_some _ c.if-d-eq65535.false)
