@@ -15,7 +15,7 @@ mod defaults;
 mod parts;
 
 use parts::Figures;
-pub use parts::{Source, put_front, put_pair};
+pub use parts::{Source, put_front, put_pair, put_records};
 
 // 16: the room is shorter than the image. Else the image is written, with the order and the depth that are known of the defaults, and the entries that each state keeps with them. The length of the image.
 pub fn image_into<S: Source>(
@@ -72,7 +72,7 @@ fn compacted_into(table: &[u8], order: u32, bound: u16, room: &mut [u8]) -> Resu
 {
     let order = Order::of(order).ok_or(Refusal::Order)?;
     let table = table::judged(table)?;
-    let def = choice::defaults_of(&table, order, bound);
+    let def = choice::defaults_of(&table, order.number(), bound);
     let chains = chains::order_of(&def, table.table.n)?;
     let table = Defaulted { table, def: &def };
     let counts = table.counts();

@@ -39,7 +39,7 @@ pub fn put_pair(room: &mut [u8], at: usize, x: u16, y: u16)
 }
 
 // Writes the records: the default and the count of each state.
-fn put_records(def: &[u16; 512], counts: &[u16; 512], n: usize, room: &mut [u8], at: usize)
+pub fn put_records(def: &[u16; 512], counts: &[u16; 512], n: usize, room: &mut [u8], at: usize)
     requires { (n ≤ 512) × (at + 4 * n ≤ length room.old) }
     ensures { room.new ≡ placed room.old at (each n (listed_record def.now counts.now)) }
 {

@@ -29,18 +29,28 @@ impl Order {
             _ => None,
         }
     }
-}
 
-// The defaults of an accepted table in an order with this path bound: for each state its default, or 65535 for none.
-pub fn defaults_of(t: &Accepted, order: Order, bound: u16) -> [u16; 512]
-    ensures { Chosen t.now.table.n (defaults t.now.table.bytes.now (number_of_order order) bound) result }
-{
-    match order {
-        Order::Start => toward::defaults_of(t),
-        Order::Roots(tie) => {
-            let mut weighed = [0u8; 262144];
-            let seen = weights::weigh_all(&t.table, &mut weighed);
-            forest::defaults_of(&weighed, &seen, t.table.n, t.table.k, tie, bound)
+    // Its number.
+    pub fn number(self) -> u8
+        ensures { result ≡ number_of_order self }
+    {
+        match self {
+            Order::Roots(Tie::States) => 0,
+            Order::Roots(Tie::Path) => 1,
+            Order::Roots(Tie::Growth) => 2,
+            Order::Start => 3,
         }
     }
+}
+
+// The defaults of an accepted table in the order with this number and with this path bound: for each state its default, or 65535 for none. Every order from 2 on but 3 goes as 2 does.
+pub fn defaults_of(t: &Accepted, order: u8, bound: u16) -> [u16; 512]
+    ensures { Chosen t.now.table.n (defaults t.now.table.bytes.now order bound) result }
+{
+    if order == 3 {
+        return toward::defaults_of(t);
+    }
+    let mut weighed = [0u8; 262144];
+    let seen = weights::weigh_all(&t.table, &mut weighed);
+    forest::defaults_of(&weighed, &seen, t.table.n, t.table.k, order, bound)
 }

@@ -26,11 +26,19 @@ pub fn put_trailer(n: usize, m: u32, held: usize, worst: u16, room: &mut [u8], a
     words::put16(room, at + 8, worst);
 }
 
+// The check word of the bytes before a place.
+pub fn check_before(b: &[u8], at: usize) -> u16
+    requires { (at ≤ length b.now) × (at % 2 ≡ 0) × (at < 2 ^ 32) }
+    ensures { result ≡ check_word_of (words (take at b.now)) }
+{
+    words::check_word(&b[..at])
+}
+
 // Writes behind the bytes before it their check word.
 pub fn put_check(room: &mut [u8], at: usize)
     requires { (at + 2 ≤ length room.old) × (at % 2 ≡ 0) × (at < 2 ^ 32) }
     ensures { room.new ≡ placed room.old at (bytes16 (check_word_of (words (take at room.old)))) }
 {
-    let check = words::check_word(&room[..at]);
+    let check = check_before(room, at);
     words::put16(room, at, check);
 }

@@ -4,7 +4,6 @@
 ghost use Rattle.std.specs.Prelude.{◌≡◌, ◌*◌, ◌≤◌, ◌<◌};
 ghost use Rattle.weights.specs.Weighed.{weight_in};
 ghost use Rattle.weights.specs.Named.{Named};
-ghost use Rattle.pairs.specs.Tie.{order_number};
 ghost use Rattle.joining.specs.Filled.{Replaced};
 ghost use Rattle.joining.specs.Rooted.{Low};
 ghost use Rattle.forest.specs.Single.{Own, Single};
@@ -13,7 +12,6 @@ ghost use Rattle.forest.specs.Settled.{stays_root_of, root_in, Settles};
 ghost use Rattle.forest.specs.Chosen.{FindsRoots};
 
 use joining::Forest;
-use pairs::Tie;
 
 // The numbers 0 to 511.
 fn own_numbers() -> [u16; 512]
@@ -107,12 +105,20 @@ pub fn defaults_of(
     seen: &[u8; 256],
     n: usize,
     k: usize,
-    tie: Tie,
+    order: u8,
     bound: u16,
 ) -> [u16; 512]
     requires { (n ≤ 512) × (0 < k) × (k ≤ 256) × Named (weight_in weights.now) n (n * 512) seen.now }
-    ensures { FindsRoots n k (order_number tie) bound weights.now result }
+    ensures { FindsRoots n k order bound weights.now result }
 {
-    let f = greedy::take_all(single_states(), weights, seen, n, tie, bound, (k - 1) as u8);
+    let f = greedy::take_all(
+        single_states(),
+        weights,
+        seen,
+        n,
+        order,
+        bound,
+        (k - 1) as u8,
+    );
     pointers(settle(f, n), n)
 }

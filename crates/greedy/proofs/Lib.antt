@@ -1,3 +1,4 @@
+pub mod Tied
 pub mod Becomes
 pub mod Pair
 pub mod Rows

@@ -62,8 +62,8 @@ fn take_weight(f: Forest, weights: &[u8; 262144], n: usize, tie: Tie, bound: u16
     }
 }
 
-// All pairs in an order by falling weight, from `top` down to 1; a weight that no pair has, by what was seen, is passed over.
-pub fn take_all(
+// All pairs by falling weight, from `top` down to 1; a weight that no pair has, by what was seen, is passed over.
+fn take_tied(
     f0: Forest,
     weights: &[u8; 262144],
     seen: &[u8; 256],
@@ -83,4 +83,21 @@ pub fn take_all(
         }
     }
     f
+}
+
+// The same in the order with this number; every order from 2 on goes by growth.
+pub fn take_all(
+    f0: Forest,
+    weights: &[u8; 262144],
+    seen: &[u8; 256],
+    n: usize,
+    order: u8,
+    bound: u16,
+    top: u8,
+) -> Forest
+    requires { (n ≤ 512) × Named (weight_in weights.now) n (n * 512) seen.now }
+    ensures { Becomes n bound (falling n (rest order n) bound (weight_in weights.now) top) f0.d f0.parent f0.tree result.d result.parent result.tree }
+{
+    let tie = Tie::of(order);
+    take_tied(f0, weights, seen, n, tie, bound, top)
 }

@@ -5,7 +5,7 @@ ghost use Rattle.std.specs.Prelude.{◌≡◌, ◌+◌, ◌*◌, ◌/◌, ◌≤
 ghost use Rattle.paper.specs.View.{look};
 ghost use Rattle.paper.specs.Image.{states, classes, entries, records_at_of, entries_part_of, image_view};
 ghost use Rattle.image.specs.Forms.{record_at_of, step_of, stored_in_of};
-ghost use Rattle.image.specs.Laid.{Laid, Begins, Rising, Under, Near, Row, Ready};
+ghost use Rattle.image.specs.Laid.{Laid, Begins, Rising, BelowAt, Near, Row, Ready};
 
 mod judged;
 mod lookup;
@@ -88,30 +88,33 @@ fn near(row: &[u8], count: usize, class: u16) -> usize
     low
 }
 
-// The entry at which the search of a row begins: a long row is halved to near the class first.
+// The place where the search of a row begins, in bytes: a long row is halved to near the class first.
 fn begin(row: &[u8], class: u16) -> usize
     requires { Rising row.now (length row.now / 4) }
-    ensures { Under row.now (length row.now / 4) class result }
+    ensures { BelowAt row.now class result }
 {
     if row.len() <= 32 {
         return 0;
     }
-    near(row, row.len() / 4, class)
+    4 * near(row, row.len() / 4, class)
 }
 
-// One step over a row whose classes rise: it ends at the first that is not below the class.
+// One step over a row whose classes rise: it ends at the first that is not below the class. It goes by places in bytes, which saves a multiplication a step.
 fn search(row: &[u8], class: u16) -> Option<u16>
     requires { Rising row.now (length row.now / 4) }
     ensures { result ≡ step_of (stored_in_of row.now class) }
 {
-    for j in begin(row, class)..row.len() / 4 {
-        let c = words::get16(row, 4 * j);
+    // Tried and slower: `for` over the places by `step_by`, and over the entries (the look-up of 511 hops took 1.28 and 1.04 times the instructions).
+    let mut at = begin(row, class);
+    while at < row.len() {
+        let c = words::get16(row, at);
         if class <= c {
             if class == c {
-                return Some(words::get16(row, 4 * j + 2));
+                return Some(words::get16(row, at + 2));
             }
             return None;
         }
+        at += 4;
     }
     None
 }

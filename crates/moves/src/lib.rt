@@ -37,7 +37,8 @@ fn put_rest(image: &Image, from: usize, held: usize, room: &mut [u8])
     let worst = words::get16(bytes, last - 2);
     ending::put_trailer(n, m as u32, held, worst, room, at + count);
     let end = at + count + 10;
-    ending::put_check(room, end);
+    let check = ending::check_before(room, end);
+    words::put16(room, end, check);
 }
 
 // The image is judged and moved into edition 2: the length of what it is there, or why it is refused.

@@ -1,3 +1,4 @@
+pub mod PutIn
 pub mod Ordered
 pub mod Labels
 pub mod Heads

@@ -1,7 +1,7 @@
 // What is asked of a pair of states: whether it can be added, which is the next of one weight in a row, and the number by which an order goes among pairs of equal weight.
 #![tactic(auto)]
 
-ghost use Rattle.std.specs.Prelude.{◌≡◌, ◌≤◌, ◌<◌};
+ghost use Rattle.std.specs.Prelude.{◌≡◌, ◌≤◌, ◌<◌, min};
 ghost use Rattle.weights.specs.Weighed.{weight_in};
 ghost use Rattle.weights.specs.Next.{Next};
 ghost use Rattle.pairs.specs.Taken.{is_taken};
@@ -14,6 +14,19 @@ pub enum Tie {
     States,
     Path,
     Growth,
+}
+
+impl Tie {
+    // What goes first in the order with this number: in order 0 smaller states, in order 1 the shorter path, in every other the smaller growth.
+    pub fn of(order: u8) -> Tie
+        ensures { order_number result ≡ min order 2 }
+    {
+        match order {
+            0 => Tie::States,
+            1 => Tie::Path,
+            _ => Tie::Growth,
+        }
+    }
 }
 
 // Whether a pair of weight x is added among those of weight w: its ends lie in different trees, and the path over it is at most the bound.

@@ -76,8 +76,11 @@ fn copy_row(rows: &Rows, l: usize, k: usize, linked: &mut [u16; 256])
     requires { (l < 512) × (k ≤ 256) }
     ensures { holds.Filled (λ c. get_or rows.now (l * 256 + c) 0) linked.new k }
 {
+    // By `copy_from_slice` it would call memmove, which the part's library need not have.
     let row = l * 256;
-    linked[..k].copy_from_slice(&rows[row..row + k]);
+    for c in 0..k {
+        linked[c] = rows[row + c];
+    }
 }
 
 // The next state where a child stands, else the other.

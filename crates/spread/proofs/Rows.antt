@@ -9,12 +9,12 @@ use native.Mathlib.Decide.{dec_lt}
 use native.Mathlib.Omega.{arith}
 use lib.ListN.{length, get_or}
 use Rattle.paper.specs.Words.{number16}
-use Rattle.paper.specs.Image.{states, default, default_from_of}
+use Rattle.paper.specs.Image.{states, default, default_from_of, image_view}
 use Rattle.paper.proofs.Tests.{none≢some}
-use Rattle.paper.proofs.Chain.{some_same}
+use Rattle.paper.proofs.Chain.{some_same, chain-default}
 use Rattle.facts.proofs.ImageFacts.{image_few_labels}
 use Rattle.chains.proofs.Defaults.{from_none}
-use Rattle.spread.specs.Rows.{row_at, RowIn, RowCopied, Inherited, Setting}
+use Rattle.spread.specs.Rows.{row_at, RowIn, Apart, RowCopied, Inherited, Setting}
 use Rattle.spread.proofs.Kept.{kept_same}
 
 -- Of two states one's row ends before the other's begins.
@@ -24,6 +24,14 @@ rows_apart k q s w = go (dec_lt q s)
     go : Dec (q < s) → (q * k + k ≤ s * k) ⊎ (s * k + k ≤ q * k)
     go (yes h) = inl (omega (arith, mul-le-mul h (le_refl k)))
     go (no h) = let l : suc s ≤ q = omega arith in inr (omega (arith, mul-le-mul l (le_refl k)))
+
+-- So they have no byte in common.
+pub apart_rows : (first k d s : ℕ) → ¬ (d ≡ s) → Apart (row_at first k d) (row_at first k s) k
+apart_rows first k d s w i j hi hj e = go (rows_apart k d s w)
+  where
+    go : (d * k + k ≤ s * k) ⊎ (s * k + k ≤ d * k) → ⊥
+    go (inl l) = absurd (omega arith)
+    go (inr l) = absurd (omega arith)
 
 -- The row of a state ends where the table does, or before.
 pub row_ends : (first n k s : ℕ) → s < n → row_at first k s + 2 * k ≤ row_at first k n
@@ -77,3 +85,14 @@ module _ {b : List ℕ} {first k : ℕ} {begins def room : List ℕ} (S : Settin
     -- It is a state.
     pub default_below : (d : ℕ) → default_from_of (get_or def s 0) ≡ some d → d < states b
     default_below d e = S.accepted.right.inside s d h (default_is d e)
+
+    -- It is another state.
+    pub default_other : (d : ℕ) → default_from_of (get_or def s 0) ≡ some d → (d < states b) × (¬ (d ≡ s))
+    default_other d e = (default_below d e, λ w. itself (rw w at (default_is d e)))
+      where
+        itself : default b s ≡ some s → ⊥
+        itself q =
+            let (l, chained) = S.accepted.right.ends s h in
+            let (m, on, longer) = chain-default (image_view b) (states b) s s l chained q in
+            let same : l ≡ m = some_same (sym chained ∙ on) in
+            absurd (omega arith)

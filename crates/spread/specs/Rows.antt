@@ -20,6 +20,10 @@ row_at first k s = first + 2 * (s * k)
 abbrev pub RowIn : ℕ → ℕ → List ℕ → ℕ → Type 0
 RowIn first k room s = (s < 512) × (row_at first k s + 2 * k ≤ length room)
 
+-- No byte of the row of k numbers at `from` is one of the row at `to`.
+abbrev pub Apart : ℕ → ℕ → ℕ → Type 0
+Apart from to k = (i j : ℕ) → i < 2 * k → j < 2 * k → ¬ (from + i ≡ to + j)
+
 -- The first so many numbers of the row at `to` are those that stood in the row at `from`, and nothing else was written.
 pub record RowCopied (old room : List ℕ) (from to count : ℕ) : Type 0 where
   pub kept : Kept old room to (to + 2 * count)

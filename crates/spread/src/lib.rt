@@ -1,14 +1,14 @@
 // The parts of the table of an image set down in a room: what stands before the rows, and the rows, that of each state after that of its default.
 #![tactic(auto)]
 
-ghost use Rattle.std.specs.Prelude.{◌≡◌, ℕ, ◌+◌, ◌*◌, ◌/◌, ◌≤◌, ◌<◌, length, get_or};
+ghost use Rattle.std.specs.Prelude.{◌≡◌, ◌⊎◌, ℕ, ◌+◌, ◌*◌, ◌/◌, ◌≤◌, ◌<◌, length, get_or};
 ghost use Rattle.std.proofs.Math.Option.{some};
 ghost use Rattle.paper.specs.Image.{states, default_from_of, image_view};
 ghost use Rattle.image.specs.Laid.{Row, Begins};
 ghost use Rattle.chains.specs.Orders.{ParentFirst};
 ghost use Rattle.chains.specs.Sweeps.{Falls};
 ghost use Rattle.spread.specs.Kept.{Kept};
-ghost use Rattle.spread.specs.Rows.{row_at, RowIn, Overlaid, Inherited, RowStands};
+ghost use Rattle.spread.specs.Rows.{row_at, RowIn, Apart, RowCopied, Overlaid, Inherited, RowStands};
 ghost use Rattle.spread.specs.Front.{rows_at, Fronted};
 
 use image::Image;
@@ -43,6 +43,17 @@ pub fn row_at(first: usize, k: usize, s: usize) -> usize
     first + 2 * (s * k)
 }
 
+// Copies the k numbers of the row at `from` to the row at `to`, another row or the same. By `copy_within` it would call memmove, which the part's library need not have.
+fn copy_row(room: &mut [u8], from: usize, to: usize, k: usize)
+    requires { (from + 2 * k ≤ length room.old) × (to + 2 * k ≤ length room.old) × (Apart from to k ⊎ (from ≡ to)) }
+    ensures { RowCopied room.old room.new from to k }
+{
+    for c in 0..k {
+        let x = words::get16(room, from + 2 * c);
+        words::put16(room, to + 2 * c, x);
+    }
+}
+
 // Puts the next state of each entry of a state into the row at `at`, in the place of its class.
 fn put_entries(part: &[u8], room: &mut [u8], at: usize, k: usize)
     requires { Row part.now k × (at + 2 * k ≤ length room.old) }
@@ -69,7 +80,7 @@ impl<'i, 'a> Spread<'i, 'a> {
         let k = self.image.k;
         let from = row_at(self.first, k, d as usize);
         let to = row_at(self.first, k, s);
-        room.copy_within(from..from + 2 * k, to);
+        copy_row(room, from, to, k);
     }
 
     // Sets down the row of a state, where that of its default stands: the default's row, and the state's own entries over it.

@@ -21,11 +21,15 @@ use Rattle.words.proofs.Behind.{placed-behind}
 use Rattle.labelling.specs.Ended.{labels_at}
 use Rattle.tableparts.specs.Pieces.{head, class_bytes, count_bytes_of, row_bytes, assembled}
 
+-- The classes of all bytes are written as they are.
+pub classes_are : (classes : List ℕ) → length classes ≡ 256 → class_bytes classes ≡ classes
+classes_are classes l = ap (λ (m : ℕ). list m (λ x. get_or classes x 0)) (sym l) ∙ list-get_or classes 0
+
 -- The classes of all bytes, put in as they are.
 pub classes_put : (room classes new : List ℕ) → length classes ≡ 256 → new ≡ classes → put_mid 6 256 room new ≡ placed room 6 (class_bytes classes)
 unfolding placed
 classes_put room classes new l e =
-    let same : class_bytes classes ≡ classes = ap (λ (m : ℕ). list m (λ x. get_or classes x 0)) (sym l) ∙ list-get_or classes 0 in
+    let same = classes_are classes l in
     let rest : post_of 6 256 room ≡ drop 262 room = search (rules, overwrites) in
     let long : 6 + length (class_bytes classes) ≡ 262 = omega (arith, ap length same) in
     ap₂ (λ (m n : List ℕ). take 6 room ++ (m ++ n)) (e ∙ sym same) (rest ∙ ap (λ (i : ℕ). drop i room) (sym long))

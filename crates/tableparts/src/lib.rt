@@ -26,7 +26,7 @@ fn put_classes(classes: &[u8; 256], room: &mut [u8])
     requires { 262 ≤ length room.old }
     ensures { room.new ≡ placed room.old 6 (class_bytes classes.now) }
 {
-    room[6..262].copy_from_slice(classes);
+    words::put_bytes(room, 6, classes);
 }
 
 // Writes the rows of all states.

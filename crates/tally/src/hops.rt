@@ -53,7 +53,10 @@ fn put_hops(t: &Table, d: u16, s: usize, classes: &[u16; 8], hop: &mut [u16; 409
     ensures { Put hop.old hop.new (8 * s) (row_number t.now.bytes.now s d classes.now hop.old) 8 }
 {
     let row = row_hops(t, d, s, classes, hop);
-    hop[8 * s..8 * s + 8].copy_from_slice(&row);
+    // By `copy_from_slice` the compiler would look at each eight whether they overlap.
+    for j in 0..8 {
+        hop[8 * s + j] = row[j];
+    }
 }
 
 impl<'t, 'a> Defaulted<'t, 'a> {

@@ -1,10 +1,14 @@
-// Text in fixed memory: pieces, numbers in decimal, lines of numbers, and the lines of an input that is refused, each put behind what stands there.
+// Text: pieces, numbers in decimal, lines of numbers, and the lines of an input that is refused, put into lent bytes (`lent`), or in fixed memory of its own behind what stands there (`Text`).
 #![tactic(auto)]
 
 ghost use Rattle.std.specs.Prelude.{◌≡◌, List, ℕ, [], ◌∷◌, ◌++◌, ◌+◌, ◌≤◌, ◌<◌, length, take};
 ghost use Rattle.paper.specs.Text.{decimal, line, refused_line, too_long_line};
 
 use std::marker::Model;
+
+mod lent;
+
+pub use lent::{put, put_line, put_number, put_refused, put_too_long};
 
 // A text of at most N bytes.
 #[derive(Drop)]
@@ -46,9 +50,7 @@ impl<const N: usize> Text<N> {
         ensures { self.new ≡ self.old ++ piece.now }
     {
         let start = self.size;
-        let end = start + piece.len();
-        let bytes = &mut self.bytes[..];
-        bytes[start..end].copy_from_slice(piece);
+        let end = lent::put(&mut self.bytes, start, piece);
         self.size = end;
     }
 
@@ -57,18 +59,7 @@ impl<const N: usize> Text<N> {
         requires { length self.old + length (decimal number) ≤ N }
         ensures { self.new ≡ self.old ++ decimal number }
     {
-        let mut digits = [0u8; 20];
-        let count = io::decimal(number as u64, &mut digits);
-        self.put(&digits[..count]);
-    }
-
-    // Puts a space and a number.
-    fn put_next(&mut self, number: u32)
-        requires { length self.old + length (32 ∷ decimal number) ≤ N }
-        ensures { self.new ≡ self.old ++ (32 ∷ decimal number) }
-    {
-        self.put(b" ");
-        self.put_number(number);
+        self.size = lent::put_number(&mut self.bytes, self.size, number);
     }
 
     // Puts a line of numbers, one at least, one space apart.
@@ -76,11 +67,7 @@ impl<const N: usize> Text<N> {
         requires { (0 < length numbers.now) × (length self.old + length (line numbers.now) ≤ N) }
         ensures { self.new ≡ self.old ++ line numbers.now }
     {
-        self.put_number(numbers[0]);
-        for i in 1..numbers.len() {
-            self.put_next(numbers[i]);
-        }
-        self.put(b"\n");
+        self.size = lent::put_line(&mut self.bytes, self.size, numbers);
     }
 
     // Puts that an input is refused, and the number.
@@ -88,8 +75,7 @@ impl<const N: usize> Text<N> {
         requires { length self.old + length (refused_line number) ≤ N }
         ensures { self.new ≡ self.old ++ refused_line number }
     {
-        self.put(b"refused ");
-        self.put_line(&[number]);
+        self.size = lent::put_refused(&mut self.bytes, self.size, number);
     }
 
     // Puts that an input is too long.
@@ -97,6 +83,6 @@ impl<const N: usize> Text<N> {
         requires { length self.old + length too_long_line ≤ N }
         ensures { self.new ≡ self.old ++ too_long_line }
     {
-        self.put(b"too long\n");
+        self.size = lent::put_too_long(&mut self.bytes, self.size);
     }
 }

@@ -6,7 +6,7 @@ use native.Mathlib.Decide.{ℕ_discrete}
 use Rattle.paper.specs.Below.{bit, how_many_of}
 
 -- One number more is tested.
-how_many_more : (i : ℕ) (p : ℕ → Bool) (count new : ℕ) → count ≡ how_many_of i p → new ≡ count + bit (p i) → new ≡ how_many_of (i + 1) p
+pub how_many_more : (i : ℕ) (p : ℕ → Bool) (count new : ℕ) → count ≡ how_many_of i p → new ≡ count + bit (p i) → new ≡ how_many_of (i + 1) p
 how_many_more i p count new so_far e = rw (add-one i, e, so_far)
 
 module _ (p : ℕ → ℕ → Bool) (N : ℕ) where

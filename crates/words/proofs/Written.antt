@@ -6,7 +6,7 @@ use Rattle.words.specs.Placed.{placed}
 use Rattle.words.proofs.Placed.{length-placed, placed_then}
 
 -- One byte stored.
-set-placed : (room : List ℕ) (at x : ℕ) → at < length room → set room at x ≡ placed room at (x ∷ [])
+pub set-placed : (room : List ℕ) (at x : ℕ) → at < length room → set room at x ≡ placed room at (x ∷ [])
 unfolding placed
 set-placed room at x h = rw (add-one at) (set_split room at x h)
 

@@ -52,12 +52,14 @@ pub fn most(list: &[u16], least: u16) -> u16
     largest
 }
 
-// Writes bytes at `at`.
+// Writes bytes at `at`. It stays a function of its own: made a part of `build::image_into` its loop costs that one an instruction or two a cell.
+#[inline(never)]
 pub fn put_bytes(room: &mut [u8], at: usize, bytes: &[u8])
     requires { at + length bytes.now ≤ length room.old }
     ensures { room.new ≡ placed room.old at bytes.now }
 {
-    room[at..at + bytes.len()].copy_from_slice(bytes);
+    // `copy_from_slice` would call memmove, which the part's library need not have.
+    copy(bytes, 0, bytes.len(), room, at);
 }
 
 // The check word of all words, as the boot ROM runs it: in sixteen bits, first word to last. A sum that comes out smaller than the word has wrapped, and the carry comes round.

@@ -33,7 +33,9 @@ same c number l after = subst (λ (t : List ℕ). Compacts t c.args.order c.args
 
 -- The defaults are those of that order.
 chosen : (c : After-defaults_of-def) → let T = c.in_ok-table.table.table in Chosen T.n (defaults T.bytes.now c.args.order c.args.bound) c.defaults_of-def.result
-chosen c = rw (← number_is (goal.at.After-defaults_of-def c).In_ok-order) c.defaults_of-def.ensures
+chosen c =
+    let e : c.number.result ≡ c.args.order = c.number.ensures ∙ number_is (goal.at.After-defaults_of-def c).In_ok-order in
+    rw (← e) c.defaults_of-def.ensures
 
 -- They are in range.
 range : (c : After-defaults_of-def) → InRange c.in_ok-table.table.table.n c.defaults_of-def.result

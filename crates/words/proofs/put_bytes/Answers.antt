@@ -1,13 +1,10 @@
--- What was copied is placed.
-use Rattle.std.proofs.Common.{◌≡◌, ◌+◌, ◌-◌, ◌++◌, List, ℕ, length, take, ap, arith}
-use Rattle.std.proofs.lemmas.List.{drop-drop}
+-- All bytes are copied.
+use Rattle.std.proofs.Common.{ℕ, List, ap, ◌∙◌, arith}
+use lib.Seq.{take-length}
 use Rattle.words.specs.Placed.{placed}
 use Rattle.words.proofs.put_bytes.Goals as goal
 
 pub returns : goal.returns
-unfolding placed
 returns c =
     let a = c.args in
-    let n = length a.bytes.now in
-    let e : a.at + n - a.at ≡ n = omega arith in
-    rw (c.copy_from_slice.ensures.after, e) (ap (λ (rest : List ℕ). take a.at a.room.now ++ (a.bytes.now ++ rest)) (drop-drop n a.at a.room.now))
+    c.copy.ensures ∙ ap (λ (bytes : List ℕ). placed a.room.now a.at bytes) (take-length a.bytes.now)

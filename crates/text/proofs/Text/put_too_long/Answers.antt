@@ -1,12 +1,6 @@
--- The bytes of the line.
-use Rattle.std.proofs.Common.{rules}
-use Rattle.paper.specs.Text.{too_long_line}
+-- The line stands behind what stood there.
+use Rattle.text.proofs.Puts.{puts_behind}
 use Rattle.text.proofs.Text.put_too_long.Goals as goal
 
-pub put-requires : goal.put-requires
-unfolding too_long_line
-put-requires g c = search rules
-
 pub returns : goal.returns
-unfolding too_long_line
-returns g c = search rules
+returns g c = rw (← c.self.view_is) (puts_behind c.put_too_long-self-inside.ensures c.self.invariant)

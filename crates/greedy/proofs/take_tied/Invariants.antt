@@ -4,7 +4,7 @@ use Rattle.paper.specs.Forest.{rest}
 use Rattle.pairs.specs.Tie.{order_number}
 use Rattle.weights.specs.Weighed.{weight_in}
 use Rattle.greedy.proofs.Falls.{Falls}
-use Rattle.greedy.proofs.take_all.Given as goal
+use Rattle.greedy.proofs.take_tied.Given as goal
 
 abbrev pub invariant-loop-at : goal.invariant-loop-at
 invariant-loop-at l =

@@ -1,0 +1,6 @@
+-- The piece stands behind what stood there.
+use Rattle.text.proofs.Puts.{puts_behind}
+use Rattle.text.proofs.Text.put.Goals as goal
+
+pub returns : goal.returns
+returns g c = rw (← c.self.view_is) (puts_behind c.put-end.ensures c.self.invariant)
